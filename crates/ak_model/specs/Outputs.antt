@@ -1,0 +1,33 @@
+-- The part of soundness on outputs: they are those of the program over memory never paged.
+use Rattle.std.specs.Prelude.{◌≡◌, ℕ, List, [], ◌∷◌, ◌++◌, ◌==◌, if◌then◌else◌}
+use Rattle.ak_core.specs.Layout.{Layout}
+use Rattle.ak_core.specs.Journal.{Journal}
+use Rattle.ak_core.specs.declared.moves.Answer.{Answer}
+use Rattle.ak_core.specs.declared.moves.Exit.{Exit}
+use Rattle.ak_model.specs.Flat.{outputs}
+use Rattle.ak_model.specs.Ends.{ended_at}
+
+-- the output that an exit shows: the argument of a call with number 1
+abbrev pub output_by : Exit → List ℕ
+output_by (Exit.Call b a) = if b == 1 then a ∷ [] else []
+output_by _ = []
+
+-- the output that an answer shows
+abbrev pub shown_by : Answer → List ℕ
+shown_by (Answer.Exit exit) = output_by exit
+shown_by _ = []
+
+-- the outputs that were shown, in order
+abbrev pub shown_outputs : List Answer → List ℕ
+shown_outputs [] = []
+shown_outputs (a ∷ answers) = shown_by a ++ shown_outputs answers
+
+-- a beginning of a list
+abbrev pub IsPrefixOf : List ℕ → List ℕ → Type 0
+IsPrefixOf xs ys = (rest : List ℕ) × (xs ++ rest ≡ ys)
+
+-- the journal's outputs are those that were shown, and a beginning of those of the flat run
+pub record OutputsAreFlat (image : List ℕ) (layout : Layout) (journal : Journal) : Type 0 where
+  pub shown : journal.outputs ≡ shown_outputs journal.answers
+  pub flat : IsPrefixOf journal.outputs
+      (outputs layout image (ended_at layout journal).control.returned (ended_at layout journal).control.count)

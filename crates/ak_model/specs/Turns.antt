@@ -1,0 +1,34 @@
+-- Turns of the processor that is inside, and runs of them.
+use Rattle.std.specs.Prelude.{ℕ, zero, suc, Option, Some, None}
+use Rattle.ak_core.specs.Layout.{Layout}
+use Rattle.ak_core.specs.declared.moves.Exit.{Exit}
+use Rattle.ak_model.specs.History.{History}
+use Rattle.ak_model.specs.Control.{Context, Program, Control}
+use Rattle.ak_model.specs.Turn.{Turn, Goes, Leaves}
+use Rattle.ak_model.specs.RuntimeStep.{runtime_turn}
+use Rattle.ak_model.specs.ProgramStep.{program_turn}
+
+-- the turn in this context; without one nothing happens
+abbrev pub turn_of : Layout → History → Control → Option Context → Turn
+turn_of layout past control (Some Program) = program_turn layout control
+turn_of layout past control (Some context) = runtime_turn layout past control context
+turn_of layout past control None = Goes control
+
+-- the turn of the processor inside
+abbrev pub turn : Layout → History → Control → Turn
+turn layout past control = turn_of layout past control control.now
+
+-- what a run came to
+pub record Ran : Type 0 where
+  pub exit : Exit
+  pub control : Control
+
+-- the run goes on after a turn, unless the turn left
+abbrev pub go_on : Turn → (Control → Ran) → Ran
+go_on (Goes control) next = next control
+go_on (Leaves exit control) next = record { exit = exit; control = control }
+
+-- up to n turns, ended by the first that leaves
+abbrev pub run : Layout → History → ℕ → Control → Ran
+run layout past zero control = record { exit = Exit.Still; control = control }
+run layout past (suc n) control = go_on (turn layout past control) (run layout past n)
