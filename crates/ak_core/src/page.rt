@@ -1,7 +1,7 @@
 // Pages, frames and what is allowed of them (SDM volume 3D, "Enclave Access Control and Data Structures").
 
 /// The number of a page of the enclave. Page `p` has the linear address base + 4096 p.
-#[derive(Clone, Copy, PartialEq, Eq, Debug)]
+#[derive(Clone, Copy, PartialEq, Eq, Debug, Default)]
 pub struct Page(pub u32);
 
 /// The number of a frame of the enclave page cache. A frame has 4096 bytes.
@@ -17,9 +17,10 @@ pub struct Lp(pub u8);
 pub struct Handle(pub u32);
 
 /// What an access does.
-#[derive(Clone, Copy, PartialEq, Eq, Debug)]
+#[derive(Clone, Copy, PartialEq, Eq, Debug, Default)]
 pub enum Kind {
     /// It loads data.
+    #[default]
     Read,
     /// It stores data.
     Write,
@@ -86,7 +87,7 @@ pub struct Entry {
 }
 
 /// An access: a page, and what is done to it. A refused one is a fault.
-#[derive(Clone, Copy, PartialEq, Eq, Debug)]
+#[derive(Clone, Copy, PartialEq, Eq, Debug, Default)]
 pub struct Fault {
     /// The page that is accessed.
     pub page: Page,

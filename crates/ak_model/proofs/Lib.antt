@@ -1,0 +1,11 @@
+pub mod Samples
+pub mod Rows
+pub mod FlatRows
+pub mod FirstRows
+pub mod Lines
+pub mod Tapes
+pub mod TapeRuns
+pub mod Cuts
+pub mod Prefixes
+pub mod Answered
+pub mod Decoding

@@ -1,0 +1,61 @@
+-- No instruction makes more than four accesses.
+use Rattle.std.proofs.Common.{ℕ, suc, ◌+◌, ◌-◌, ◌≤◌, List, [], ◌∷◌, length, length-append, arith}
+use Rattle.std.specs.Prelude.{Bool, true, false, if◌then◌else◌, nat_lt, ◌==◌}
+use Rattle.ak_core.specs.Layout.{Layout}
+use Rattle.ak_core.specs.Mem.{Touch, touch}
+use Rattle.ak_core.specs.declared.page.Kind.{Kind}
+use Rattle.ak_core.specs.declared.page.Kind.TheVariants.{Read, Write, Exec}
+use Rattle.ak_core.specs.declared.instruction.Decoded.{Decoded}
+use Rattle.ak_core.specs.declared.instruction.Decoded.TheVariants.{Whole, NeedMore, Illegal}
+use Rattle.ak_model.specs.Pages.{pages}
+use Rattle.ak_model.specs.Instructions.{Plan, Traps, Computes, Reads, Writes, CallsOut, plan}
+use Rattle.ak_model.specs.Flat.{Flat, Line, page_at, is_program, operand_touches, if_operand, carry_out, straddling, in_first_page, line}
+
+-- a line with at most so many accesses
+AtMost : ℕ → Line → Type 0
+AtMost n l = length l.touches ≤ n
+
+either_most : (n : ℕ) (b : Bool) (l m : Line) → AtMost n l → AtMost n m → AtMost n (if b then l else m)
+either_most n true l m h k = h
+either_most n false l m h k = k
+
+either_few : (n : ℕ) (b : Bool) (xs ys : List Touch) → length xs ≤ n → length ys ≤ n → length (if b then xs else ys) ≤ n
+either_few n true xs ys h k = h
+either_few n false xs ys h k = k
+
+operand_few : (layout : Layout) (address count : ℕ) (kind : Kind) → length (operand_touches layout address count kind) ≤ 2
+operand_few layout address count kind = either_few 2 (page_at layout address == page_at layout (address + count - 1)) _ _ (omega arith) (omega arith)
+
+operand_most : (layout : Layout) (touches : List Touch) (address count : ℕ) (kind : Kind) (flat : Flat) → AtMost (length touches + 2) (if_operand layout touches address count kind flat)
+unfolding AtMost
+operand_most layout touches address count kind flat =
+    either_most (length touches + 2) (is_program layout address count) _ _
+    (let few = operand_few layout address count kind in omega (arith, length-append touches (operand_touches layout address count kind)))
+    (omega arith)
+
+carry_most : (layout : Layout) (flat : Flat) (touches : List Touch) (p : Plan) → AtMost (length touches + 2) (carry_out layout flat touches p)
+unfolding AtMost
+carry_most layout flat touches (Traps v) = omega arith
+carry_most layout flat touches (Computes regs) = omega arith
+carry_most layout flat touches (CallsOut b a regs) = omega arith
+carry_most layout flat touches (Reads address count regs) = operand_most layout touches address count Read _
+carry_most layout flat touches (Writes address new regs) = operand_most layout touches address (length new) Write _
+
+straddling_most : (layout : Layout) (flat : Flat) (p q : ℕ) (d : Decoded) → AtMost 4 (straddling layout flat (touch p Exec ∷ touch q Exec ∷ []) d)
+unfolding AtMost
+straddling_most layout flat p q (Whole instr size) = carry_most layout flat (touch p Exec ∷ touch q Exec ∷ []) _
+straddling_most layout flat p q NeedMore = omega arith
+straddling_most layout flat p q Illegal = omega arith
+
+first_most : (layout : Layout) (flat : Flat) (p : ℕ) (d : Decoded) → AtMost 4 (in_first_page layout flat p d)
+unfolding AtMost
+first_most layout flat p (Whole instr size) =
+    let three = carry_most layout flat (touch p Exec ∷ []) (plan instr (record flat.regs { rip = flat.regs.rip + size })) in omega arith
+first_most layout flat p Illegal = omega arith
+first_most layout flat p NeedMore =
+    either_most 4 (nat_lt (suc p) (pages layout)) _ _ (straddling_most layout flat p (suc p) _) (omega arith)
+
+pub few_touches : (layout : Layout) (flat : Flat) → length (line layout flat).touches ≤ 4
+unfolding AtMost
+few_touches layout flat =
+    either_most 4 (is_program layout flat.regs.rip 1) _ _ (first_most layout flat _ _) (omega arith)
