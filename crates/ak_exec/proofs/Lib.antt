@@ -1,0 +1,5 @@
+pub mod Decoding
+pub mod Windows
+pub mod FirstRows
+pub mod Lines
+pub mod Executed

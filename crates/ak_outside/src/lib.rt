@@ -1,0 +1,23 @@
+//! The outside: where the bytes come from, and where they go. A fault of the outside is told from a fault of the program
+//! by a count that each object keeps and that only the outside raises.
+#![tactic(auto)]
+
+mod calls;
+mod files;
+mod memory_files;
+mod memory_sink;
+mod pieces;
+mod real_files;
+mod real_sink;
+mod sink;
+
+pub use files::{Files, FilesFault};
+pub use memory_files::MemFiles;
+pub use memory_sink::MemSink;
+pub use pieces::{write_lines, write_three, write_two};
+pub use real_files::RealFiles;
+pub use real_sink::RealSink;
+pub use sink::{Sink, SinkFault};
+
+#[cfg(test)]
+mod tests;

@@ -1,0 +1,13 @@
+pub mod FlatRuns
+pub mod Going
+pub mod OnePages
+pub mod OneTouch
+pub mod ProgramTurns
+pub mod RuntimeTurns
+pub mod Runs
+pub mod Moves
+pub mod Sessions
+pub mod Digits
+pub mod ScriptLines
+pub mod Endings
+pub mod Statuses

@@ -1,0 +1,17 @@
+pub mod Served
+pub mod Quiet
+pub mod OnePageLayout
+pub mod OnePage
+pub mod FirstImage
+pub mod Stands
+pub mod Faithful
+pub mod Words
+pub mod NamesGiven
+pub mod Script
+pub mod Report
+pub mod Trouble
+pub mod Told
+pub mod Seen
+pub mod Top
+pub mod Steps
+pub mod TopCall

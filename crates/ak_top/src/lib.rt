@@ -1,0 +1,17 @@
+//! The program as one call over the files and sinks that are handed in: it reads an image and a script, applies the
+//! script's moves to the image's enclave, and writes the report of its journal.
+#![tactic(auto)]
+
+mod first_image;
+mod machine;
+mod one_page;
+mod report;
+mod script;
+mod session;
+#[cfg(test)]
+mod tests;
+mod top;
+mod trouble;
+mod words;
+
+pub use top::autarky;
