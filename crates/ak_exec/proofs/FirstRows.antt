@@ -9,7 +9,7 @@ use Rattle.ak_model.specs.Build.{encodings}
 use Rattle.ak_model.specs.Encodings.{decode_by, first_rows}
 use Rattle.ak_model.specs.Flat.{decode}
 use Rattle.ak_exec.specs.Turns.{IsPlain}
-use Rattle.ak_exec.proofs.Decoding.{decode_by-take, decode_by-each, decode_by-size}
+use Rattle.ak_model.proofs.Decoding.{decode_by-take, decode_by-each, decode_by-size}
 use Rattle.ak_exec.proofs.Windows.{take-take-append}
 
 -- an instruction asks nothing of memory and has ten bytes at most

@@ -1,4 +1,3 @@
-pub mod Decoding
 pub mod Windows
 pub mod FirstRows
 pub mod Lines

@@ -1,21 +1,22 @@
--- What a decoder needs to read: ten bytes, and of a whole instruction as many as its length.
+-- What is known of decoding by any rows: how many bytes it reads, and what each row spells.
 use Rattle.std.proofs.Common.{◌≡◌, ℕ, zero, suc, ◌+◌, ◌*◌, ◌^◌, ◌<◌, ◌≤◌, List, [], ◌∷◌, length, take, arith, refl, ap, ◌∙◌, subst}
 use Rattle.std.specs.Prelude.{Bool, true, false, Option, Some, None, nat_le}
 use Rattle.std.specs.List.{list_all}
+use Rattle.std.specs.Bool.{then_some}
 use Rattle.std.proofs.lemmas.Bool.{and_parts, leb-true}
 use Rattle.ak_core.specs.declared.instruction.Instr.{Instr}
-use Rattle.std.specs.Bool.{then_some}
 use Rattle.ak_core.specs.declared.instruction.Decoded.{Decoded}
 use Rattle.ak_core.specs.declared.instruction.Decoded.TheVariants.{Whole}
-use Rattle.ak_model.specs.Instructions.{HasRegisters}
 use Rattle.ak_model.specs.Encodings.{Part, Byte, W, WB, N, High, Plus, Both, Memory, Digit, Low, with_operands, with_prefix, Fields, Row, Match, Fits, Short, Differs, no_fields, read_part, match_on, match_parts, decoded_as, decode_by, table}
+use Rattle.ak_model.specs.Instructions.{HasRegisters}
 use Rattle.ak_model.specs.Build.{encodings}
 use Rattle.ak_core.specs.declared.build.Build.{Build}
 use Rattle.ak_core.specs.declared.build.Build.TheVariants.{Resident, Sealed}
 use Rattle.ak_core.specs.Layout.{Layout}
 use Rattle.ak_model.specs.Flat.{decode}
 
--- a row reads no more bytes than it has parts
+-- ---- Decoding reads no more bytes than the longest row has parts
+
 on_more : (o : Option Fields) (parts : List Part) (n : ℕ) (bytes : List ℕ) → ((fields : Fields) → match_parts parts (take n bytes) fields ≡ match_parts parts bytes fields) → match_on o (match_parts parts (take n bytes)) ≡ match_on o (match_parts parts bytes)
 on_more None parts n bytes h = refl
 on_more (Some fields) parts n bytes h = h fields
@@ -27,23 +28,17 @@ match_parts-take (part ∷ parts) (suc n) [] fields h = refl
 match_parts-take (part ∷ parts) (suc n) (v ∷ bytes) fields h =
     on_more (read_part part v fields) parts n bytes (λ f. match_parts-take parts n bytes f (omega arith))
 
-abbrev are_short : ℕ → List Row → Bool
+-- no row has more than n parts
+abbrev pub are_short : ℕ → List Row → Bool
 are_short n rows = list_all (λ row. nat_le (length row.parts) n) rows
 
-decode_by-take : (rows : List Row) (n : ℕ) (bytes : List ℕ) → are_short n rows ≡ true → decode_by rows (take n bytes) ≡ decode_by rows bytes
+-- so many bytes tell what all of them begin with
+pub decode_by-take : (rows : List Row) (n : ℕ) (bytes : List ℕ) → are_short n rows ≡ true → decode_by rows (take n bytes) ≡ decode_by rows bytes
 decode_by-take [] n bytes h = refl
 decode_by-take (row ∷ rows) n bytes h =
     let both = and_parts (nat_le (length row.parts) n) (are_short n rows) h in
     ap (λ m. decoded_as m row (decode_by rows (take n bytes))) (match_parts-take row.parts n bytes no_fields (leb-true _ _ both.0))
     ∙ ap (decoded_as (match_parts row.parts bytes no_fields) row) (decode_by-take rows n bytes both.1)
-
-encodings_short : (build : Build) → are_short 10 (encodings build) ≡ true
-encodings_short Resident = refl
-encodings_short Sealed = refl
-
--- ten bytes are enough
-pub decode-take : (layout : Layout) (bytes : List ℕ) → decode layout (take 10 bytes) ≡ decode layout bytes
-decode-take layout bytes = decode_by-take (encodings layout.build) 10 bytes (encodings_short layout.build)
 
 -- ---- A whole instruction is there
 
@@ -63,16 +58,15 @@ whole_by row (Fits fields) others bytes instr n e w h =
 whole_by row Short others bytes instr n e w h = absurd (cc)
 whole_by row Differs others bytes instr n e w h = h w
 
-whole_length : (rows : List Row) (bytes : List ℕ) (instr : Instr) (n : ℕ) → decode_by rows bytes ≡ Whole instr n → n ≤ length bytes
-whole_length [] bytes instr n e = absurd (cc)
-whole_length (row ∷ rows) bytes instr n e =
-    whole_by row (match_parts row.parts bytes no_fields) (decode_by rows bytes) bytes instr n refl e (whole_length rows bytes instr n)
-
-pub decode-length : (layout : Layout) (bytes : List ℕ) (instr : Instr) (n : ℕ) → decode layout bytes ≡ Whole instr n → n ≤ length bytes
-decode-length layout bytes instr n e = whole_length (encodings layout.build) bytes instr n e
+-- a whole instruction is no longer than the bytes
+pub decode_by-length : (rows : List Row) (bytes : List ℕ) (instr : Instr) (n : ℕ) → decode_by rows bytes ≡ Whole instr n → n ≤ length bytes
+decode_by-length [] bytes instr n e = absurd (cc)
+decode_by-length (row ∷ rows) bytes instr n e =
+    whole_by row (match_parts row.parts bytes no_fields) (decode_by rows bytes) bytes instr n refl e (decode_by-length rows bytes instr n)
 
 -- ---- The registers that an encoding names are below 16
 
+-- the prefix's bits are bits, and the operands are registers
 pub record FieldsFine (fields : Fields) : Type 0 where
   pub r : fields.r < 2
   pub b : fields.b < 2
@@ -116,7 +110,7 @@ match_fine (part ∷ parts) (v ∷ bytes) fields out h e =
 none_fine : FieldsFine no_fields
 none_fine = record { r = omega arith; b = omega arith; reg = omega arith; rm = omega arith }
 
--- what each row spells has the property, so what is decoded has it
+-- what each row spells has the property
 abbrev pub EachRow : (Instr → Type 0) → List Row → Type 0
 EachRow P [] = Unit {0}
 EachRow P (row ∷ rows) = ((fields : Fields) → FieldsFine fields → P (row.spells fields)) × EachRow P rows
@@ -127,11 +121,38 @@ row_spells P row (Fits fields) bytes others instr size e spells w later =
 row_spells P row Short bytes others instr size e spells w later = absurd (cc)
 row_spells P row Differs bytes others instr size e spells w later = later w
 
+-- so what is decoded has it
 pub decode_by-each : (P : Instr → Type 0) (rows : List Row) (bytes : List ℕ) (instr : Instr) (size : ℕ) → EachRow P rows → decode_by rows bytes ≡ Whole instr size → P instr
 decode_by-each P [] bytes instr size h w = absurd (cc)
 decode_by-each P (row ∷ rows) bytes instr size h w =
     row_spells P row (match_parts row.parts bytes no_fields) bytes (decode_by rows bytes) instr size refl h.0 w
     (decode_by-each P rows bytes instr size h.1)
+
+size_by : (row : Row) (m : Match) (others : Decoded) (instr : Instr) (n size : ℕ) → length row.parts ≤ n → decoded_as m row others ≡ Whole instr size → (others ≡ Whole instr size → size ≤ n) → size ≤ n
+size_by row (Fits fields) others instr n size short w later = let same : length row.parts ≡ size = cc in omega arith
+size_by row Short others instr n size short w later = absurd (cc)
+size_by row Differs others instr n size short w later = later w
+
+-- an instruction has no more bytes than the longest row has parts
+pub decode_by-size : (rows : List Row) (n : ℕ) (bytes : List ℕ) (instr : Instr) (size : ℕ) → are_short n rows ≡ true → decode_by rows bytes ≡ Whole instr size → size ≤ n
+decode_by-size [] n bytes instr size h w = absurd (cc)
+decode_by-size (row ∷ rows) n bytes instr size h w =
+    let both = and_parts (nat_le (length row.parts) n) (are_short n rows) h in
+    size_by row (match_parts row.parts bytes no_fields) (decode_by rows bytes) instr n size (leb-true _ _ both.0) w
+    (decode_by-size rows n bytes instr size both.1)
+
+-- ---- The rows of either build
+
+encodings_short : (build : Build) → are_short 10 (encodings build) ≡ true
+encodings_short Resident = refl
+encodings_short Sealed = refl
+
+-- ten bytes are enough
+pub decode-take : (layout : Layout) (bytes : List ℕ) → decode layout (take 10 bytes) ≡ decode layout bytes
+decode-take layout bytes = decode_by-take (encodings layout.build) 10 bytes (encodings_short layout.build)
+
+pub decode-length : (layout : Layout) (bytes : List ℕ) (instr : Instr) (n : ℕ) → decode layout bytes ≡ Whole instr n → n ≤ length bytes
+decode-length layout bytes instr n w = decode_by-length (encodings layout.build) bytes instr n w
 
 each_has : EachRow HasRegisters table
 each_has =

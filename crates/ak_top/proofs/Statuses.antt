@@ -179,7 +179,7 @@ serves_trouble files names out err trouble ends still long asked told =
       long = (λ e. (refl, at_long files names out o long e), λ h. from_long files names out o long h.1);
       still = at_still files names out o still;
       silent = λ e. absurd (never_zero trouble e);
-      line = λ other. record { trouble = trouble; status_is = refl; cause = ends; line = told };
+      line = λ other. record { trouble = trouble; status_is = refl; cause = ends; asked = asked; line = told };
       asked = λ tells. some_asked files names out o (asked tells);
       complete = λ tells. complete files names out tells o ends;
     }

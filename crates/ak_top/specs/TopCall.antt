@@ -1,5 +1,5 @@
 -- The contract of the top call: what each status says of the words, the files and the sinks.
-use Rattle.std.specs.Prelude.{◌≡◌, ℕ, ◌≤◌, ◌<◌, ◌==◌, ◌↔◌, IsTrue, List, [], ◌∷◌, length, Option, Some, None, IsSome, IfSome, IsSomeAnd, ◌⊎◌}
+use Rattle.std.specs.Prelude.{◌≡◌, ℕ, ◌≤◌, ◌<◌, ◌==◌, ◌↔◌, IsTrue, List, [], ◌∷◌, length, Option, Some, None, IsSome, IfSome, IsSomeAnd, ◌⊎◌, Err}
 use Rattle.std.specs.List.{list_any}
 use Rattle.ak_core.specs.declared.moves.Move.{Move}
 use Rattle.ak_outside.specs.Causes.{Rose}
@@ -7,7 +7,7 @@ use Rattle.ak_top.specs.Words.{Names}
 use Rattle.ak_top.specs.Script.{script_of, Read, Refused}
 use Rattle.ak_top.specs.Seen.{FilesSeen, SinkSeen}
 use Rattle.ak_top.specs.Told.{Told}
-use Rattle.ak_top.specs.Top.{limit, ReadsFile, AcceptsImage, Reports, ReportsFront, Caused, AsksOf}
+use Rattle.ak_top.specs.Top.{limit, ReadsFile, AcceptsImage, Reports, ReportsFront, Caused, AsksBy, AsksOf}
 use Rattle.ak_top.specs.Trouble.{status_of, line_of}
 use Rattle.ak_top.specs.declared.trouble.Trouble.{Trouble}
 use Rattle.ak_top.specs.declared.trouble.Trouble.TheVariants.{Usage}
@@ -32,11 +32,18 @@ abbrev pub CausedBy : Option Names → Trouble → FilesSeen → SinkSeen → Ty
 CausedBy None trouble files out = trouble ≡ Usage
 CausedBy (Some names) trouble files out = Caused trouble files names out
 
--- a status that is not 0 is that of a trouble, which has its cause; and err took its line, or a front of it at a fault
+-- the names that were asked up to a trouble
+abbrev pub AsksAt : Option Names → Trouble → FilesSeen → Type 0
+AsksAt None trouble files = files.asked ≡ files.asked_before
+AsksAt (Some names) trouble files = AsksBy (Err trouble) files names
+
+-- a status that is not 0 is that of a trouble, which has its cause, and the names up to its place were asked; and err took its
+-- line, or a front of it at a fault
 pub record TellsTrouble (status : ℕ) (names : Option Names) (files : FilesSeen) (out err : SinkSeen) : Type 0 where
   pub trouble : Trouble
   pub status_is : status ≡ status_of trouble
   pub cause : CausedBy names trouble files out
+  pub asked : IsTrue files.tells → AsksAt names trouble files
   pub line : Told err.taken_before err.taken err.faults_before err.faults (line_of trouble names)
 
 -- the status is one of these
