@@ -18,7 +18,7 @@ run_before layout (Some earlier) run e = (earlier, refl)
 
 pub run_next : (layout : Layout) (image returned : List ℕ) (i : ℕ) (run : Run) → flat_run layout image returned i ≡ Some run →
     flat_run layout image returned (i + 1) ≡ ended (step layout run.flat) run.answers
-run_next layout image returned i run e = rw (add-one, e) refl
+run_next layout image returned i run e = ap (flat_run layout image returned) (add-one i) ∙ ap (one_more layout) e
 
 -- how an instruction that is reached ends
 pub step_is : (layout : Layout) (runs : Runs) (i : ℕ) (run : Run) → runs i ≡ Some run → step_at layout runs i ≡ Some (step layout run.flat)

@@ -117,7 +117,8 @@ Reaches layout image returned count flat =
     flat_run layout image returned count ≡ Some (record { flat = flat; answers = [] })
 
 -- the program's next instruction is that of the flat run
-pub record IsRunning (layout : Layout) (image : List ℕ) (flat : Flat) (count : ℕ) (returned : List ℕ) (events : List Event) : Type 0 where
+pub record IsRunning (layout : Layout) (image : List ℕ) (flat : Flat) (count : ℕ)
+    (returned : List ℕ) (events : List Event) : Type 0 where
   pub reached : Reaches layout image returned count flat
   pub going : IsGoing count events
 
@@ -129,12 +130,14 @@ pub record IsNew (image : List ℕ) (flat : Flat) (count : ℕ) (returned : List
   pub no_events : events ≡ []
 
 -- the program's next instruction gives a vector
-pub record IsRaised (layout : Layout) (image : List ℕ) (flat : Flat) (count : ℕ) (returned : List ℕ) (vector : ℕ) : Type 0 where
+pub record IsRaised (layout : Layout) (image : List ℕ) (flat : Flat) (count : ℕ)
+    (returned : List ℕ) (vector : ℕ) : Type 0 where
   pub reached : Reaches layout image returned count flat
   pub raises : step layout flat ≡ End.Vector vector
 
 -- the program's last instruction was this call, whose answer is missing
-pub record IsAfterCall (layout : Layout) (image : List ℕ) (flat : Flat) (count : ℕ) (returned : List ℕ) (number argument : ℕ) : Type 0 where
+pub record IsAfterCall (layout : Layout) (image : List ℕ) (flat : Flat) (count : ℕ)
+    (returned : List ℕ) (number argument : ℕ) : Type 0 where
   pub before : ℕ
   pub caller : Flat
   pub count_is : count ≡ suc before
@@ -142,7 +145,8 @@ pub record IsAfterCall (layout : Layout) (image : List ℕ) (flat : Flat) (count
   pub called : step layout caller ≡ End.Call number argument flat
 
 -- the kernel was shown a call, and has not answered it
-pub record IsCalling (layout : Layout) (image : List ℕ) (flat : Flat) (count : ℕ) (returned : List ℕ) (events : List Event) : Type 0 where
+pub record IsCalling (layout : Layout) (image : List ℕ) (flat : Flat) (count : ℕ)
+    (returned : List ℕ) (events : List Event) : Type 0 where
   pub number : ℕ
   pub argument : ℕ
   pub call : IsAfterCall layout image flat count returned (suc number) argument
@@ -154,24 +158,32 @@ GoesOn zero count events = Unit {0}
 GoesOn (suc number) count events = IsGoing count events
 
 -- the kernel was not shown the call yet
-pub record IsLeaving (layout : Layout) (image : List ℕ) (flat : Flat) (count : ℕ) (returned : List ℕ) (events : List Event) (number argument : ℕ) : Type 0 where
+pub record IsLeaving (layout : Layout) (image : List ℕ) (flat : Flat) (count : ℕ)
+    (returned : List ℕ) (events : List Event) (number argument : ℕ) : Type 0 where
   pub call : IsAfterCall layout image flat count returned number argument
   pub going : GoesOn number count events
 
 -- the program does not run, at this stage
 abbrev pub StageStands : Stage → Layout → List ℕ → Flat → ℕ → List ℕ → List Event → Type 0
-StageStands Stage.New layout image flat count returned events = IsNew image flat count returned events
-StageStands (Stage.Raised v) layout image flat count returned events = IsRaised layout image flat count returned v
-StageStands Stage.Calling layout image flat count returned events = IsCalling layout image flat count returned events
+StageStands Stage.New layout image flat count returned events =
+    IsNew image flat count returned events
+StageStands (Stage.Raised v) layout image flat count returned events =
+    IsRaised layout image flat count returned v
+StageStands Stage.Calling layout image flat count returned events =
+    IsCalling layout image flat count returned events
 StageStands (Stage.Ended s) layout image flat count returned events = Unit {0}
 StageStands (Stage.Trapped v) layout image flat count returned events = Unit {0}
 
 -- the machine is at this place of the flat run
 abbrev pub ActivityStands : Activity → Layout → List ℕ → Flat → ℕ → List ℕ → List Event → Type 0
-ActivityStands (Activity.Outside stage) layout image flat count returned events = StageStands stage layout image flat count returned events
-ActivityStands (Activity.Entering stage v) layout image flat count returned events = StageStands stage layout image flat count returned events
-ActivityStands Activity.Running layout image flat count returned events = IsRunning layout image flat count returned events
-ActivityStands (Activity.Leaving b a) layout image flat count returned events = IsLeaving layout image flat count returned events b a
+ActivityStands (Activity.Outside stage) layout image flat count returned events =
+    StageStands stage layout image flat count returned events
+ActivityStands (Activity.Entering stage v) layout image flat count returned events =
+    StageStands stage layout image flat count returned events
+ActivityStands Activity.Running layout image flat count returned events =
+    IsRunning layout image flat count returned events
+ActivityStands (Activity.Leaving b a) layout image flat count returned events =
+    IsLeaving layout image flat count returned events b a
 
 -- ---- The whole relation
 
@@ -186,7 +198,8 @@ unshown (Activity.Leaving b a) = output_in (Exit.Call b a)
 unshown _ = None
 
 -- the state is a place of the image's flat run; these values were returned, these outputs shown, and these events given
-pub record Stands (layout : Layout) (image : List ℕ) (state : State) (returned shown : List ℕ) (events : List Event) : Type 0 where
+pub record Stands (layout : Layout) (image : List ℕ) (state : State)
+    (returned shown : List ℕ) (events : List Event) : Type 0 where
   pub place : ActivityStands state.activity layout image state.flat state.count returned events
   pub made : outputs layout image returned state.count ≡ with_more shown (unshown state.activity)
   pub tape : is_tape events ≡ true
@@ -224,12 +237,20 @@ turn_to None control = Goes control
 turn_to (Some exit) control = Leaves exit control
 
 -- a turn from one state to the next is that of the definitions, whatever comes later
-pub record DoesTurn (layout : Layout) (image : List ℕ) (old new : State) (exit : Option Exit) (event : Option Event) (returned shown : List ℕ) (events : List Event) : Type 0 where
-  pub stands : Stands layout image new (with_more returned (value_at old.activity)) (with_more shown (output_at exit)) (with_more events event)
+pub record DoesTurn (layout : Layout) (image : List ℕ) (old new : State) (exit : Option Exit) (event : Option Event)
+    (returned shown : List ℕ) (events : List Event) : Type 0 where
+  pub stands : Stands layout image new
+      (with_more returned (value_at old.activity)) (with_more shown (output_at exit)) (with_more events event)
   pub traced : (past : History) (later : List Event) → IsLater later new.count →
       turn layout past (control_of layout old returned (first_then event later))
       ≡ turn_to exit (control_of layout new (with_more returned (value_at old.activity)) later)
   pub due : (later : List Event) → IsLater later new.count → IsLater (first_then event later) old.count
+
+-- the same from any place of any image's flat run
+abbrev pub IsTurn : Layout → State → State → Option Exit → Option Event → Type 0
+IsTurn layout old new exit event =
+    (image returned shown : List ℕ) (events : List Event) → Stands layout image old returned shown events →
+    DoesTurn layout image old new exit event returned shown events
 
 -- ---- Runs of turns
 
@@ -239,7 +260,8 @@ is_leaving (Activity.Leaving b a) = true
 is_leaving _ = false
 
 -- so many turns without an exit, with at most one event
-pub record RunsSoFar (layout : Layout) (image : List ℕ) (old new : State) (event : Option Event) (turns : ℕ) (returned shown : List ℕ) (events : List Event) : Type 0 where
+pub record RunsSoFar (layout : Layout) (image : List ℕ) (old new : State) (event : Option Event) (turns : ℕ)
+    (returned shown : List ℕ) (events : List Event) : Type 0 where
   pub values : List ℕ
   pub stands : Stands layout image new values shown (with_more events event)
   pub traced : (past : History) (later : List Event) → IsLater later new.count → (more : ℕ) →
@@ -248,13 +270,20 @@ pub record RunsSoFar (layout : Layout) (image : List ℕ) (old new : State) (eve
   pub due : (later : List Event) → IsLater later new.count → IsLater (first_then event later) old.count
 
 -- a run of up to so many turns, with at most one event
-pub record DoesRun (layout : Layout) (image : List ℕ) (old new : State) (exit : Exit) (event : Option Event) (turns : ℕ) (returned shown : List ℕ) (events : List Event) : Type 0 where
+pub record DoesRun (layout : Layout) (image : List ℕ) (old new : State) (exit : Exit) (event : Option Event) (turns : ℕ)
+    (returned shown : List ℕ) (events : List Event) : Type 0 where
   pub values : List ℕ
   pub stands : Stands layout image new values (with_more shown (output_in exit)) (with_more events event)
   pub traced : (past : History) (later : List Event) → IsLater later new.count →
       run layout past turns (control_of layout old returned (first_then event later))
       ≡ record { exit = exit; control = control_of layout new values later }
   pub due : (later : List Event) → IsLater later new.count → IsLater (first_then event later) old.count
+
+-- the same from any place of any image's flat run
+abbrev pub IsRun : Layout → State → State → Exit → Option Event → ℕ → Type 0
+IsRun layout old new exit event turns =
+    (image returned shown : List ℕ) (events : List Event) → Stands layout image old returned shown events →
+    DoesRun layout image old new exit event turns returned shown events
 
 -- the processor is still inside after a run with this exit
 abbrev pub is_still : Exit → Bool
@@ -269,7 +298,8 @@ output_of_answer (Answer.Exit exit) = output_in exit
 output_of_answer _ = None
 
 -- a move after this history, with its answer and at most one event
-pub record DoesMove (layout : Layout) (image : List ℕ) (past : History) (old new : State) (m : Move) (a : Answer) (event : Option Event) (returned shown : List ℕ) (events : List Event) : Type 0 where
+pub record DoesMove (layout : Layout) (image : List ℕ) (past : History) (old new : State) (m : Move) (a : Answer)
+    (event : Option Event) (returned shown : List ℕ) (events : List Event) : Type 0 where
   pub values : List ℕ
   pub stands : Stands layout image new values (with_more shown (output_of_answer a)) (with_more events event)
   pub answered : (later : List Event) → IsLater later new.count →
@@ -279,3 +309,10 @@ pub record DoesMove (layout : Layout) (image : List ℕ) (past : History) (old n
       ≡ control_of layout new values later
   pub due : (later : List Event) → IsLater later new.count → IsLater (first_then event later) old.count
   pub within : inside ((m, a) ∷ past) 0 ≡ is_inside new.activity
+
+-- the same from any place of any image's flat run, after any history by which the processor is inside or outside as it is
+abbrev pub IsMove : Layout → State → State → Move → Answer → Option Event → Type 0
+IsMove layout old new m a event =
+    (image returned shown : List ℕ) (events : List Event) (past : History) →
+    Stands layout image old returned shown events → inside past 0 ≡ is_inside old.activity →
+    DoesMove layout image past old new m a event returned shown events

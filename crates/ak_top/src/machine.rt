@@ -1,5 +1,5 @@
 // The machine: one processor, its memory of one page, and the runtime.
-ghost use Rattle.std.specs.Prelude.{◌≡◌, ◌+◌, ◌<◌, ◌≤◌, ◌^◌, ℕ, List, Some, None, IfSome, IsSome, IsTrue, is_some, true, false, not, length};
+ghost use Rattle.std.specs.Prelude.{◌≡◌, ◌+◌, ◌<◌, ◌≤◌, ◌^◌, Some, None, IfSome, IsSome, IsTrue, is_some, true, false, not, length};
 ghost use Rattle.ak_core.specs.declared.registers.Mode.TheVariants.{Program};
 ghost use Rattle.ak_model.specs.Flat.{zeroed};
 ghost use Rattle.ak_top.specs.OnePageLayout.{IsOnePageLayout};
@@ -92,11 +92,8 @@ fn zeroed_at(rip: u64) -> Regs
 }
 
 impl Machine {
-    ghost use Rattle.ak_core.specs.declared.event.Event.{Event as TheEvent};
-    ghost use Rattle.ak_model.specs.History.{History};
-    ghost use Rattle.ak_model.specs.Inside.{inside};
     ghost use Rattle.ak_top.specs.Served.{is_served};
-    ghost use Rattle.ak_top.specs.Stands.{Stands, DoesTurn, DoesRun, DoesMove, IsBuilt, state_of, is_inside, is_leaving, is_still};
+    ghost use Rattle.ak_top.specs.Stands.{IsTurn, IsRun, IsMove, IsBuilt, state_of, is_inside, is_leaving, is_still};
 
     /// The machine at the end of the build.
     pub fn build(layout: Layout, page: Vec<u8>) -> Machine
@@ -119,9 +116,7 @@ impl Machine {
         requires room { self.old.count + 1 < 2 ^ 64 }
         requires running { self.old.activity ≡ Activity.Running }
         ensures layout { self.new.layout ≡ self.old.layout }
-        ensures turn { (image returned shown : List ℕ) (events : List TheEvent) →
-            Stands self.old.layout image (state_of self.old) returned shown events →
-            DoesTurn self.old.layout image (state_of self.old) (state_of self.new) result.exit result.event returned shown events }
+        ensures turn { IsTurn self.old.layout (state_of self.old) (state_of self.new) result.exit result.event }
         ensures calls { IsSome result.event → result.exit ≡ None → IsTrue (is_leaving self.new.activity) }
         ensures left { is_inside self.new.activity ≡ not (is_some result.exit) }
         ensures left_by { IfSome result.exit (λ exit. is_still exit ≡ false) }
@@ -186,9 +181,7 @@ impl Machine {
     fn entry_turn(&mut self, stage: Stage, value: u64) -> Turned
         requires entering { self.old.activity ≡ Activity.Entering stage value }
         ensures layout { self.new.layout ≡ self.old.layout }
-        ensures turn { (image returned shown : List ℕ) (events : List TheEvent) →
-            Stands self.old.layout image (state_of self.old) returned shown events →
-            DoesTurn self.old.layout image (state_of self.old) (state_of self.new) result.exit result.event returned shown events }
+        ensures turn { IsTurn self.old.layout (state_of self.old) (state_of self.new) result.exit result.event }
         ensures quiet { result.event ≡ None }
         ensures left { is_inside self.new.activity ≡ not (is_some result.exit) }
         ensures left_by { IfSome result.exit (λ exit. is_still exit ≡ false) }
@@ -196,7 +189,9 @@ impl Machine {
     {
         match stage {
             Stage::New => {
-                self.regs = zeroed_at(self.layout.base() + self.layout.entry() as u64);
+                let rip = self.layout.base() + self.layout.entry() as u64;
+                let first = zeroed_at(rip);
+                self.regs = first;
                 self.go_on()
             }
             Stage::Calling => {
@@ -214,9 +209,7 @@ impl Machine {
     fn leave_turn(&mut self, number: u64, argument: u64) -> Turned
         requires leaving { self.old.activity ≡ Activity.Leaving number argument }
         ensures layout { self.new.layout ≡ self.old.layout }
-        ensures turn { (image returned shown : List ℕ) (events : List TheEvent) →
-            Stands self.old.layout image (state_of self.old) returned shown events →
-            DoesTurn self.old.layout image (state_of self.old) (state_of self.new) result.exit result.event returned shown events }
+        ensures turn { IsTurn self.old.layout (state_of self.old) (state_of self.new) result.exit result.event }
         ensures quiet { result.event ≡ None }
         ensures leaves { is_some result.exit ≡ true }
         ensures left { is_inside self.new.activity ≡ not (is_some result.exit) }
@@ -234,9 +227,7 @@ impl Machine {
         requires room { self.old.count + 1 < 2 ^ 64 }
         requires inside { is_inside self.old.activity ≡ true }
         ensures layout { self.new.layout ≡ self.old.layout }
-        ensures turn { (image returned shown : List ℕ) (events : List TheEvent) →
-            Stands self.old.layout image (state_of self.old) returned shown events →
-            DoesTurn self.old.layout image (state_of self.old) (state_of self.new) result.exit result.event returned shown events }
+        ensures turn { IsTurn self.old.layout (state_of self.old) (state_of self.new) result.exit result.event }
         ensures leaves { IsTrue (is_leaving self.old.activity) → (result.event ≡ None) × (is_some result.exit ≡ true) }
         ensures calls { IsSome result.event → result.exit ≡ None → IsTrue (is_leaving self.new.activity) }
         ensures left { is_inside self.new.activity ≡ not (is_some result.exit) }
@@ -256,9 +247,7 @@ impl Machine {
         requires room { self.old.count + turns < 2 ^ 64 }
         requires inside { is_inside self.old.activity ≡ true }
         ensures layout { self.new.layout ≡ self.old.layout }
-        ensures run { (image returned shown : List ℕ) (events : List TheEvent) →
-            Stands self.old.layout image (state_of self.old) returned shown events →
-            DoesRun self.old.layout image (state_of self.old) (state_of self.new) result.exit result.event turns returned shown events }
+        ensures run { IsRun self.old.layout (state_of self.old) (state_of self.new) result.exit result.event turns }
         ensures left { is_inside self.new.activity ≡ is_still result.exit }
         ensures count { self.new.count ≤ self.old.count + turns }
     {
@@ -279,9 +268,7 @@ impl Machine {
     /// The kernel enters on a processor with a value.
     fn enter(&mut self, lp: Lp, value: u64) -> Answer
         ensures layout { self.new.layout ≡ self.old.layout }
-        ensures moved { (image returned shown : List ℕ) (events : List TheEvent) (past : History) →
-            Stands self.old.layout image (state_of self.old) returned shown events → inside past 0 ≡ is_inside self.old.activity →
-            DoesMove self.old.layout image past (state_of self.old) (state_of self.new) (Move.Eenter lp value) result None returned shown events }
+        ensures moved { IsMove self.old.layout (state_of self.old) (state_of self.new) (Move.Eenter lp value) result None }
         ensures count { self.new.count ≡ self.old.count }
     {
         if lp.0 >= self.layout.lps() {
@@ -298,9 +285,8 @@ impl Machine {
     fn run(&mut self, lp: Lp, turns: u32) -> Applied
         requires room { self.old.count + turns < 2 ^ 64 }
         ensures layout { self.new.layout ≡ self.old.layout }
-        ensures moved { (image returned shown : List ℕ) (events : List TheEvent) (past : History) →
-            Stands self.old.layout image (state_of self.old) returned shown events → inside past 0 ≡ is_inside self.old.activity →
-            DoesMove self.old.layout image past (state_of self.old) (state_of self.new) (Move.Run lp turns) result.answer result.event returned shown events }
+        ensures moved { IsMove self.old.layout (state_of self.old) (state_of self.new) (Move.Run lp turns) result.answer
+            result.event }
         ensures count { self.new.count ≤ self.old.count + turns }
     {
         if lp.0 >= self.layout.lps() {
@@ -327,9 +313,7 @@ impl Machine {
         requires served { IsTrue (is_served m) }
         requires room { self.old.count + 1000000 < 2 ^ 64 }
         ensures layout { self.new.layout ≡ self.old.layout }
-        ensures moved { (image returned shown : List ℕ) (events : List TheEvent) (past : History) →
-            Stands self.old.layout image (state_of self.old) returned shown events → inside past 0 ≡ is_inside self.old.activity →
-            DoesMove self.old.layout image past (state_of self.old) (state_of self.new) m result.answer result.event returned shown events }
+        ensures moved { IsMove self.old.layout (state_of self.old) (state_of self.new) m result.answer result.event }
         ensures count { self.new.count ≤ self.old.count + 1000000 }
     {
         match m {

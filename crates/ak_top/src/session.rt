@@ -1,6 +1,7 @@
 // A machine with its journal.
 ghost use Rattle.std.specs.Prelude.{◌≡◌, ◌+◌, ◌<◌, ◌≤◌, ◌^◌, ◌++◌, ◌∷◌, [], ℕ, List, None, IfOk, OnOk, OnErr, IsTrue, length};
 ghost use Rattle.std.specs.List.{list_all};
+ghost use Rattle.ak_core.specs.Journal.{SameLists};
 ghost use Rattle.ak_model.specs.Outputs.{OutputsAreFlat};
 ghost use Rattle.ak_model.specs.Events.{EventsAreFlat};
 ghost use Rattle.ak_model.specs.Answered.{AnswersAreTraced};
@@ -58,7 +59,7 @@ impl Session {
             Faithful self.old.machine.layout image (state_of self.old.machine) self.old.journal →
             Faithful self.old.machine.layout image (state_of self.new.machine) self.new.journal }
         ensures moves { OnOk result (self.new.journal.moves ≡ self.old.journal.moves ++ m ∷ []) }
-        ensures unchanged { OnErr result (self.new.journal.moves ≡ self.old.journal.moves) }
+        ensures unchanged { OnErr result (SameLists self.old.journal self.new.journal) }
         ensures same { OnErr result (state_of self.new.machine ≡ state_of self.old.machine) }
         ensures count { self.new.machine.count ≤ self.old.machine.count + 1000000 }
     {

@@ -9,8 +9,8 @@ use Rattle.ak_top.proofs.machine.Machine.entry_turn.Goals as goal
 pub returns-in-New-clause-turn : goal.returns-in-New-clause-turn
 returns-in-New-clause-turn c = λ image returned shown events st.
     let layout = c.args.self.now.layout in
-    let regs : c.zeroed_at-self.result ≡ zeroed (layout.base + layout.entry) =
-    c.zeroed_at-self.ensures ∙ ap (λ base. zeroed (base + c.entry.result)) c.base.ensures.base ∙ ap (λ entry. zeroed (layout.base + entry)) c.entry.ensures in
+    let regs : c.zeroed_at-first.result ≡ zeroed (layout.base + layout.entry) =
+    c.zeroed_at-first.ensures ∙ ap (λ base. zeroed (base + c.entry.result)) c.base.ensures.base ∙ ap (λ entry. zeroed (layout.base + entry)) c.entry.ensures in
     entry layout image (state_of c.args.self.now) (state_of c.go_on.new.self) Stage.New c.args.value c.go_on.result returned shown events
     c.args.self.now.served.resident st (c.requires.entering ∙ ap (λ stage. Activity.Entering stage c.args.value) c.in-New.is)
     (c.go_on.ensures.state ∙ ap (with_regs (state_of c.args.self.now)) regs) c.go_on.ensures.turned
