@@ -32,7 +32,7 @@ module _ (layout : Layout) where
   if_maps false f t u t' u' d e = e
 
   -- a taken event leaves the rest
-  taken_rest : (control : Control) (x : Event) (rest : List Event) → (after (event_turn layout (at_rest (x ∷ rest) control) (Some x))).rest ≡ rest
+  pub taken_rest : (control : Control) (x : Event) (rest : List Event) → (after (event_turn layout (at_rest (x ∷ rest) control) (Some x))).rest ≡ rest
   taken_rest control (Call i b a) rest = refl
   taken_rest control (Miss i c) rest = refl
   taken_rest control (Break i) rest = refl
@@ -70,7 +70,7 @@ module _ (layout : Layout) where
     cut_by control [] h = refl
     cut_by control (x ∷ rest) h = cut_tests control x rest (count_of x == control.count) (nat_le k (length rest)) refl refl h
 
-    cut_ok : (control : Control) → k ≤ length (after (program_turn layout control)).rest → program_turn layout (tape_map (all_but_last k) control) ≡ on_turn (tape_map (all_but_last k)) (program_turn layout control)
+    pub cut_ok : (control : Control) → k ≤ length (after (program_turn layout control)).rest → program_turn layout (tape_map (all_but_last k) control) ≡ on_turn (tape_map (all_but_last k)) (program_turn layout control)
     cut_ok control h = cut_by control control.rest h
 
     back_tests : (control : Control) (x : Event) (rest : List Event) (b : Bool) → k ≤ length (after (event_turn layout (at_rest (x ∷ rest) control) (then_some b x))).rest → k ≤ suc (length rest)
@@ -82,7 +82,7 @@ module _ (layout : Layout) where
     back_by control [] h = h
     back_by control (x ∷ rest) h = back_tests control x rest (count_of x == control.count) h
 
-    cut_back : (control : Control) → k ≤ length (after (program_turn layout control)).rest → k ≤ length control.rest
+    pub cut_back : (control : Control) → k ≤ length (after (program_turn layout control)).rest → k ≤ length control.rest
     cut_back control h = back_by control control.rest h
 
     -- where the last k events are not taken, the trace without them is the same
@@ -102,7 +102,7 @@ module _ (layout : Layout) where
     later_down [] m n le h = tt
     later_down (event ∷ rest) m n le h = omega arith
 
-    no_due : (count : ℕ) (events : List Event) → IsLater events (count + 1) → due count events ≡ None
+    pub no_due : (count : ℕ) (events : List Event) → IsLater events (count + 1) → due count events ≡ None
     no_due count [] h = refl
     no_due count (event ∷ rest) h =
         let differ : (count_of event == count) ≡ false = ne_eqb (count_of event) count (λ e. omega arith) in
@@ -116,7 +116,7 @@ module _ (layout : Layout) where
     more_by control [] h = ap (event_turn layout (at_rest more control)) (no_due control.count more h)
     more_by control (x ∷ rest) h = more_tests control x rest (count_of x == control.count)
 
-    more_ok : (control : Control) → IsLater more (after (program_turn layout control)).count → program_turn layout (tape_map longer control) ≡ on_turn (tape_map longer) (program_turn layout control)
+    pub more_ok : (control : Control) → IsLater more (after (program_turn layout control)).count → program_turn layout (tape_map longer control) ≡ on_turn (tape_map longer) (program_turn layout control)
     more_ok control h = more_by control control.rest h
 
     grows_tests : (control : Control) (x : Event) (rest : List Event) (b : Bool) → control.count ≤ (after (event_turn layout (at_rest (x ∷ rest) control) (then_some b x))).count
@@ -127,7 +127,7 @@ module _ (layout : Layout) where
     grows_by control [] = omega arith
     grows_by control (x ∷ rest) = grows_tests control x rest (count_of x == control.count)
 
-    more_back : (control : Control) → IsLater more (after (program_turn layout control)).count → IsLater more control.count
+    pub more_back : (control : Control) → IsLater more (after (program_turn layout control)).count → IsLater more control.count
     more_back control h =
         later_down more control.count (after (program_turn layout control)).count (grows_by control control.rest) h
 

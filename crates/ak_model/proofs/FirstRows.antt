@@ -17,7 +17,7 @@ use Rattle.ak_model.proofs.Rows.{Holds}
 use Rattle.ak_model.proofs.FlatRows.{code_a, bytes_a, filled}
 use Rattle.ak_core.specs.declared.moves.Answer.{Answer}
 
-unfoldable one_page : Layout
+unfoldable pub one_page : Layout
 one_page = in_frames image_a
 
 -- two calls: an output, and the end

@@ -71,7 +71,7 @@ module _ (layout : Layout) (g : List Event → List Event) (P : List Event → �
       subst (λ rest. P rest control.count) (runtime_rest layout past control context)
       (subst (λ count. P (after (runtime_turn layout past control context)).rest count) (runtime_count layout past control context) h)
 
-  turn_ok : (past : History) (control : Control) (now : Option Context) → Good (after (turn_of layout past control now)) → turn_of layout past (tape_map g control) now ≡ on_turn (tape_map g) (turn_of layout past control now)
+  pub turn_ok : (past : History) (control : Control) (now : Option Context) → Good (after (turn_of layout past control now)) → turn_of layout past (tape_map g control) now ≡ on_turn (tape_map g) (turn_of layout past control now)
   turn_ok past control None h = refl
   turn_ok past control (Some Program) h = program_ok control h
   turn_ok past control (Some (Entry k v)) h = runtime_maps layout g past control (Entry k v)
@@ -89,11 +89,11 @@ module _ (layout : Layout) (g : List Event → List Event) (P : List Event → �
   turn_back past control (Some Guard) h = runtime_back past control Guard h
   turn_back past control (Some (Leave b a)) h = runtime_back past control (Leave b a) h
 
-  goes_back : (past : History) (n : ℕ) → ((control : Control) → Good (run layout past n control).control → Good control) → (t : Turn) → Good (go_on t (run layout past n)).control → Good (after t)
+  pub goes_back : (past : History) (n : ℕ) → ((control : Control) → Good (run layout past n control).control → Good control) → (t : Turn) → Good (go_on t (run layout past n)).control → Good (after t)
   goes_back past n earlier (Goes next) h = earlier next h
   goes_back past n earlier (Leaves exit next) h = h
 
-  run_back : (past : History) (n : ℕ) (control : Control) → Good (run layout past n control).control → Good control
+  pub run_back : (past : History) (n : ℕ) (control : Control) → Good (run layout past n control).control → Good control
   run_back past zero control h = h
   run_back past (suc n) control h =
       turn_back past control control.now (goes_back past n (run_back past n) (turn layout past control) h)

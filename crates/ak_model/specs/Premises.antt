@@ -1,8 +1,8 @@
--- Words for what laws ask of a tape.
-use Rattle.std.specs.Prelude.{◌≡◌, ℕ, ◌≤◌, ◌<◌, false, List, [], ◌∷◌, length, nat_le, ◌==◌, if◌then◌else◌}
+-- Words for what laws ask and say of a tape.
+use Rattle.std.specs.Prelude.{◌≡◌, ℕ, ◌≤◌, ◌<◌, false, List, [], ◌∷◌, length, Option, Some, None, nat_le, ◌==◌, if◌then◌else◌}
 use Rattle.ak_core.specs.Layout.{Layout}
 use Rattle.ak_core.specs.declared.event.Event.{Event}
-use Rattle.ak_core.specs.declared.event.Event.TheVariants.{Miss}
+use Rattle.ak_core.specs.declared.event.Event.TheVariants.{Call, Miss, Trap, Break}
 use Rattle.ak_model.specs.Queue.{after_miss, is_in}
 use Rattle.ak_model.specs.ProgramStep.{count_of}
 
@@ -33,3 +33,11 @@ with_miss i _ others = others
 abbrev pub misses_at : List Event → ℕ → List ℕ
 misses_at [] i = []
 misses_at (event ∷ tape) i = with_miss i event (misses_at tape i)
+
+-- a turn of this count and event, where instructions are complete up to a bound: one that completes is below the bound
+abbrev pub IsCounted : ℕ → ℕ → Option Event → Type 0
+IsCounted bound count None = count < bound
+IsCounted bound count (Some (Call i b a)) = count < bound
+IsCounted bound count (Some (Miss i c)) = count ≤ bound
+IsCounted bound count (Some (Trap i v)) = count ≤ bound
+IsCounted bound count (Some (Break i)) = count ≤ bound

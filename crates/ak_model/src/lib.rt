@@ -3,3 +3,6 @@
 #![tactic(auto)]
 
 pub mod laws;
+pub mod laws_control;
+pub mod laws_history;
+pub mod laws_queue;

@@ -1,0 +1,257 @@
+-- The kernel can count the saved contexts, the pending flag and the queue from the answers.
+use Rattle.std.proofs.Common.{◌≡◌, ℕ, zero, suc, List, [], ◌∷◌, ◌++◌, length, drop, take, arith, refl, ap, sym, ◌∙◌, subst}
+use Rattle.std.specs.Prelude.{Bool, true, false, ◌||◌, if◌then◌else◌, Option, Some, None, ◌==◌, is_some, not, nat_lt}
+use Rattle.ak_core.specs.Layout.{Layout}
+use Rattle.ak_core.specs.Mem.{Touch}
+use Rattle.ak_core.specs.declared.moves.Exit.{Exit}
+use Rattle.ak_core.specs.declared.moves.Exit.TheVariants.{Vector, Still}
+use Rattle.ak_core.specs.declared.event.Event.{Event}
+use Rattle.ak_core.specs.declared.event.Event.TheVariants.{Call as CallEvent, Miss, Trap, Break}
+use Rattle.ak_core.specs.declared.moves.Answer.{Answer}
+use Rattle.ak_core.specs.declared.moves.Answer.TheVariants.{Ok, NoLp, Outside}
+use Rattle.ak_model.specs.History.{History, Change, Unchanged, Maps, Blocks, Cycles, WritesOut, Loads, Removes, MakesVa, Discards, Enters, Resumes, Exits, Interrupts, if_ok, if_left, if_exit, if_handle}
+use Rattle.ak_model.specs.Queue.{drops}
+use Rattle.ak_model.specs.Control.{Phase, New, Running, Calling, Asked, Ended, Trapped, Dead, Context, Program, Entry, Probe, Finish, Guard, Leave, Reason, Interrupted, Cleared, Raised, Denied, Missed, Broke, Faulted, Saved, Control, cssa}
+use Rattle.ak_model.specs.Turn.{Turn, Goes, Leaves}
+use Rattle.ak_model.specs.RuntimeStep.{touches, step_fault, guard_top, guarded_twice, program_at_bottom, shown_fault, ask, handle, enter, finish, resume_guard, leave_call, effect, unless_fault}
+use Rattle.ak_model.specs.ProgramStep.{due, leave_program, event_turn}
+use Rattle.ak_model.specs.Turns.{turn_of, turn, Ran, go_on, run}
+use Rattle.ak_model.specs.Entering.{entered, resumed_by, on_ok, interrupted_by, on_exit}
+use Rattle.ak_model.specs.Counted.{is_asynchronous, more_if, saved_after, pending_after, Request, Service, with_served, service_by, service_after, service, IsRequested, Counts, CountsRight}
+use Rattle.ak_model.proofs.Someone.{IsQuiet, quiet_ok, quiet_handle}
+use Rattle.ak_model.specs.Trace.{Moment, step}
+use Rattle.ak_model.specs.Inside.{inside}
+use Rattle.ak_model.specs.Answers.{answer}
+use Rattle.ak_core.specs.declared.moves.Move.{Move}
+use Rattle.ak_core.specs.declared.moves.Move.TheVariants.{SetPte, ReadPte, Eblock, Etrack, Ewb, Eldu, Eldb, Eremove, Epa, Discard, Eenter, Eresume, Run, Interrupt}
+
+top_length : (stack : List Saved) → length (guard_top stack) ≡ length stack
+top_length [] = refl
+top_length (saved ∷ older) = refl
+
+twice_length : (stack : List Saved) → length (guarded_twice stack) ≡ length stack
+twice_length [] = refl
+twice_length (saved ∷ []) = refl
+twice_length (saved ∷ next ∷ older) = refl
+
+bottom_length : (stack : List Saved) → length (program_at_bottom stack) ≡ length stack
+bottom_length [] = refl
+bottom_length (saved ∷ []) = refl
+bottom_length (saved ∷ next ∷ older) = ap suc (bottom_length (next ∷ older))
+
+module _ (layout : Layout) where
+  abbrev TurnCounts : ℕ → Bool → Service → Turn → Type 0
+  TurnCounts saved pending service (Goes control) = Counts saved pending service control
+  TurnCounts saved pending service (Leaves exit control) = Counts (more_if (is_asynchronous exit) saved) (is_asynchronous exit || pending) (service_by exit service) control
+
+  module _ (saved : ℕ) (pending : Bool) (service : Service) (control : Control) (old : Counts saved pending service control) where
+    -- another phase, in which nothing is asked for, and another stack of this length
+    settled : (next : Control) → cssa next ≡ cssa control → next.pending ≡ control.pending → next.queue ≡ control.queue → IsRequested next.phase service.request → Counts saved pending service next
+    settled next l p q r = record { saved_is = old.saved_is ∙ sym l; pending_is = old.pending_is ∙ sym p; queue_is = old.queue_is ∙ sym q; requested = r }
+
+    gone : Counts saved pending service (record control { now = None })
+    gone = settled _ refl refl refl old.requested
+
+    either : (b : Bool) (t u : Turn) → TurnCounts saved pending service t → TurnCounts saved pending service u → TurnCounts saved pending service (if b then t else u)
+    either true t u h k = h
+    either false t u h k = k
+
+    asked : (c : ℕ) → TurnCounts saved pending service (ask layout control c)
+    asked c = record {
+      saved_is = old.saved_is ∙ sym (top_length control.stack);
+      pending_is = old.pending_is;
+      queue_is = ap (drop (drops layout control.queue c)) old.queue_is;
+      requested = (take (drops layout control.queue c) service.queue, refl);
+    }
+
+    by_reason : (k : ℕ) (inner : Context) (reason : Reason) (older : List Saved) → TurnCounts saved pending service (handle layout control k (record { context = inner; reason = reason } ∷ older))
+    by_reason k inner Interrupted older = gone
+    by_reason k inner Cleared older = gone
+    by_reason k inner (Raised v) older = settled _ (top_length control.stack) refl refl tt
+    by_reason k inner Denied older = settled _ (top_length control.stack) refl refl tt
+    by_reason k inner Broke older = settled _ (top_length control.stack) refl refl tt
+    by_reason k inner (Missed c) older = asked c
+    by_reason k inner (Faulted t) older = either (k == 2) _ _ (settled _ (twice_length control.stack) refl refl tt) (settled _ (top_length control.stack) refl refl tt)
+
+    handled : (k : ℕ) (stack : List Saved) → TurnCounts saved pending service (handle layout control k stack)
+    handled k [] = gone
+    handled k (saved ∷ older) = by_reason k saved.context saved.reason older
+
+    enter_counts : (k v : ℕ) (phase : Phase) → TurnCounts saved pending service (enter layout control k v phase)
+    enter_counts k v (Ended s) = gone
+    enter_counts k v (Trapped x) = gone
+    enter_counts k v Dead = gone
+    enter_counts k v Running = handled k control.stack
+    enter_counts zero v New = settled _ refl refl refl tt
+    enter_counts (suc k) v New = handled (suc k) control.stack
+    enter_counts zero v Calling = settled _ refl refl refl tt
+    enter_counts (suc k) v Calling = handled (suc k) control.stack
+    enter_counts zero v (Asked c) = handled zero control.stack
+    enter_counts (suc (suc k)) v (Asked c) = handled (suc (suc k)) control.stack
+    enter_counts (suc zero) v (Asked c) = settled _ refl refl refl old.requested
+
+    served : (c : ℕ) (request : Option Request) → service.request ≡ request → IsRequested (Asked c) request → (with_served service request).queue ≡ control.queue ++ c ∷ []
+    served c None e h = absurd (let x = h.1 in cc)
+    served c (Some request) e h = let x : request ≡ record { dropped = h.0; cluster = c } = let y = h.1 in cc in ap (λ q. q ++ request.cluster ∷ []) old.queue_is ∙ ap (λ r. control.queue ++ r.cluster ∷ []) x
+
+    finish_counts : (phase : Phase) → control.phase ≡ phase → TurnCounts saved pending service (finish control phase)
+    finish_counts (Asked c) e = record {
+      saved_is = old.saved_is ∙ sym (bottom_length control.stack);
+      pending_is = old.pending_is;
+      queue_is = served c service.request refl (subst (λ p. IsRequested p service.request) e old.requested);
+      requested = tt;
+    }
+    finish_counts New e = gone
+    finish_counts Running e = gone
+    finish_counts Calling e = gone
+    finish_counts (Ended s) e = gone
+    finish_counts (Trapped x) e = gone
+    finish_counts Dead e = gone
+
+    guard_counts : (phase : Phase) → TurnCounts saved pending service (resume_guard control phase)
+    guard_counts (Asked c) = settled _ refl refl refl tt
+    guard_counts New = gone
+    guard_counts Running = gone
+    guard_counts Calling = gone
+    guard_counts (Ended s) = gone
+    guard_counts (Trapped x) = gone
+    guard_counts Dead = gone
+
+    leave_counts : (b a : ℕ) → TurnCounts saved pending service (leave_call control b a)
+    leave_counts zero a = settled _ refl refl refl tt
+    leave_counts (suc b) a = settled _ refl refl refl tt
+
+    effect_counts : (context : Context) → TurnCounts saved pending service (effect layout control context)
+    effect_counts Program = old
+    effect_counts (Entry k v) = enter_counts k v control.phase
+    effect_counts (Probe i) = settled _ refl refl refl old.requested
+    effect_counts Finish = finish_counts control.phase refl
+    effect_counts Guard = guard_counts control.phase
+    effect_counts (Leave b a) = leave_counts b a
+
+    fault_counts : (context : Context) (o : Option Touch) → TurnCounts saved pending service (unless_fault layout control context o)
+    fault_counts context None = effect_counts context
+    fault_counts context (Some t) = record { saved_is = (let e = old.saved_is in omega arith); pending_is = refl; queue_is = old.queue_is; requested = old.requested }
+
+    left_program : (exit : Exit) (reason : Reason) → is_asynchronous exit ≡ true → service_by exit service ≡ service → TurnCounts saved pending service (leave_program exit reason control)
+    left_program exit reason e s = record {
+      saved_is = ap (λ b. more_if b saved) e ∙ (let l = old.saved_is in omega arith);
+      pending_is = ap (λ b. b || pending) e;
+      queue_is = ap (λ x. x.queue) s ∙ old.queue_is;
+      requested = subst (λ x. IsRequested control.phase x.request) (sym s) old.requested;
+    }
+
+    event_counts : (x : Option Event) → TurnCounts saved pending service (event_turn layout control x)
+    event_counts None = settled _ refl refl refl old.requested
+    event_counts (Some (CallEvent i b a)) = settled _ refl refl refl old.requested
+    event_counts (Some (Miss i c)) = left_program (shown_fault layout) (Missed c) refl refl
+    event_counts (Some (Break i)) = left_program (shown_fault layout) Broke refl refl
+    event_counts (Some (Trap i v)) = either (v == 14) _ _ (left_program (shown_fault layout) Denied refl refl) (left_program (Vector v) (Raised v) refl refl)
+
+    turn_by : (past : History) (now : Option Context) → TurnCounts saved pending service (turn_of layout past control now)
+    turn_by past None = old
+    turn_by past (Some Program) = event_counts (due control.count control.rest)
+    turn_by past (Some (Entry k v)) = fault_counts (Entry k v) (step_fault layout past (touches layout control (Entry k v)))
+    turn_by past (Some (Probe i)) = fault_counts (Probe i) (step_fault layout past (touches layout control (Probe i)))
+    turn_by past (Some Finish) = fault_counts Finish (step_fault layout past (touches layout control Finish))
+    turn_by past (Some Guard) = fault_counts Guard (step_fault layout past (touches layout control Guard))
+    turn_by past (Some (Leave b a)) = fault_counts (Leave b a) (step_fault layout past (touches layout control (Leave b a)))
+
+  -- ---- A run
+
+  abbrev RanCounts : ℕ → Bool → Service → Ran → Type 0
+  RanCounts saved pending service ran = Counts (more_if (is_asynchronous ran.exit) saved) (is_asynchronous ran.exit || pending) (service_by ran.exit service) ran.control
+
+  go_counts : (saved : ℕ) (pending : Bool) (service : Service) (past : History) (n : ℕ) (t : Turn) → TurnCounts saved pending service t → ((control : Control) → Counts saved pending service control → RanCounts saved pending service (run layout past n control)) → RanCounts saved pending service (go_on t (run layout past n))
+  go_counts saved pending service past n (Goes next) h later = later next h
+  go_counts saved pending service past n (Leaves exit next) h later = h
+
+  run_counts : (saved : ℕ) (pending : Bool) (service : Service) (past : History) (n : ℕ) (control : Control) → Counts saved pending service control → RanCounts saved pending service (run layout past n control)
+  run_counts saved pending service past zero control old = old
+  run_counts saved pending service past (suc n) control old =
+      go_counts saved pending service past n (turn layout past control) (turn_by saved pending service control old past control.now) (run_counts saved pending service past n)
+
+  -- ---- A move
+
+  abbrev After : ℕ → Bool → Service → Change → Control → Type 0
+  After saved pending service c control = Counts (saved_after c saved) (pending_after c pending) (service_after c service) control
+
+  module _ (saved : ℕ) (pending : Bool) (service : Service) (control : Control) (old : Counts saved pending service control) where
+    quiet : (c : Change) → IsQuiet layout c → After saved pending service c control
+    quiet Unchanged q = old
+    quiet (Maps p f flags) q = old
+    quiet (Blocks f) q = old
+    quiet Cycles q = old
+    quiet (WritesOut f va i k) q = old
+    quiet (Loads f k p va i blocked) q = old
+    quiet (Removes f) q = old
+    quiet (MakesVa f) q = old
+    quiet (Discards k) q = old
+    quiet (Enters lp v) q = absurd q
+    quiet (Resumes lp) q = absurd q
+    quiet (Exits lp exit) q = absurd q
+    quiet (Interrupts lp) q = absurd q
+
+    enter_after : (lp v : ℕ) (a : Answer) → After saved pending service (if_ok a (Enters lp v)) (on_ok a control (entered control v))
+    enter_after lp v Ok = record { saved_is = old.saved_is; pending_is = refl; queue_is = old.queue_is; requested = old.requested }
+    enter_after lp v _ = old
+
+    resumed : (lp : ℕ) (stack : List Saved) → control.stack ≡ stack → After saved pending service (Resumes lp) (resumed_by control stack)
+    resumed lp [] e = record {
+      saved_is = (let l = old.saved_is in let n : cssa control ≡ 0 = ap length e in omega arith);
+      pending_is = old.pending_is;
+      queue_is = old.queue_is;
+      requested = old.requested;
+    }
+    resumed lp (saved ∷ older) e = record {
+      saved_is = (let l = old.saved_is in let n : cssa control ≡ suc (length older) = ap length e in omega arith);
+      pending_is = old.pending_is;
+      queue_is = old.queue_is;
+      requested = old.requested;
+    }
+
+    resume_after : (lp : ℕ) (a : Answer) → After saved pending service (if_ok a (Resumes lp)) (on_ok a control (resumed_by control control.stack))
+    resume_after lp Ok = resumed lp control.stack refl
+    resume_after lp _ = old
+
+    interrupted : (lp : ℕ) (now : Option Context) → is_some now ≡ true → After saved pending service (Interrupts lp) (interrupted_by control now)
+    interrupted lp None some = absurd (cc)
+    interrupted lp (Some context) some = record {
+      saved_is = (let l = old.saved_is in omega arith);
+      pending_is = old.pending_is;
+      queue_is = old.queue_is;
+      requested = old.requested;
+    }
+
+    interrupt_after : (lp : ℕ) (there within : Bool) → (within ≡ true → is_some control.now ≡ true) → (let a = if not there then NoLp else (if not within then Outside else Ok) in After saved pending service (if_ok a (Interrupts lp)) (on_ok a control (interrupted_by control control.now)))
+    interrupt_after lp false within some = old
+    interrupt_after lp true false some = old
+    interrupt_after lp true true some = interrupted lp control.now (some refl)
+
+    left_after : (lp : ℕ) (exit : Exit) (next : Control) → Counts (more_if (is_asynchronous exit) saved) (is_asynchronous exit || pending) (service_by exit service) next → After saved pending service (if_left exit (Exits lp exit)) next
+    left_after lp Still next h = h
+    left_after lp exit next h = h
+
+    run_after : (past : History) (lp n : ℕ) (there within : Bool) → (let a = if not there then NoLp else (if not within then Outside else Answer.Exit (run layout past n control).exit) in After saved pending service (if_exit a (λ exit. Exits lp exit)) (on_exit a control (run layout past n control).control))
+    run_after past lp n false within = old
+    run_after past lp n true false = old
+    run_after past lp n true true =
+        let ran = run layout past n control in
+        left_after lp ran.exit ran.control (run_counts saved pending service past n control old)
+
+  -- one more move
+  pub step_counts : (moment : Moment) (m : Move) → ((p : ℕ) → inside moment.past p ≡ true → is_some moment.control.now ≡ true) → CountsRight layout moment → CountsRight layout (step layout moment m)
+  step_counts moment (ReadPte p) context old = old
+  step_counts moment (Eenter lp v) context old = enter_after _ _ _ moment.control old lp.0 v (answer layout moment.past moment.control (Eenter lp v))
+  step_counts moment (Eresume lp) context old = resume_after _ _ _ moment.control old lp.0 (answer layout moment.past moment.control (Eresume lp))
+  step_counts moment (Run lp n) context old = run_after _ _ _ moment.control old moment.past lp.0 n (nat_lt lp.0 layout.lps) (inside moment.past lp.0)
+  step_counts moment (Interrupt lp) context old = interrupt_after _ _ _ moment.control old lp.0 (nat_lt lp.0 layout.lps) (inside moment.past lp.0) (context lp.0)
+  step_counts moment (SetPte p f flags) context old = quiet _ _ _ moment.control old (if_ok (answer layout moment.past moment.control (SetPte p f flags)) _) (quiet_ok layout (answer layout moment.past moment.control (SetPte p f flags)) _ tt)
+  step_counts moment (Eblock f) context old = quiet _ _ _ moment.control old (if_ok (answer layout moment.past moment.control (Eblock f)) _) (quiet_ok layout (answer layout moment.past moment.control (Eblock f)) _ tt)
+  step_counts moment Etrack context old = quiet _ _ _ moment.control old (if_ok (answer layout moment.past moment.control Etrack) _) (quiet_ok layout (answer layout moment.past moment.control Etrack) _ tt)
+  step_counts moment (Ewb f va i) context old = quiet _ _ _ moment.control old (if_handle (answer layout moment.past moment.control (Ewb f va i)) _) (quiet_handle layout (answer layout moment.past moment.control (Ewb f va i)) _ (λ k. tt))
+  step_counts moment (Eldu f k p va i) context old = quiet _ _ _ moment.control old (if_ok (answer layout moment.past moment.control (Eldu f k p va i)) _) (quiet_ok layout (answer layout moment.past moment.control (Eldu f k p va i)) _ tt)
+  step_counts moment (Eldb f k p va i) context old = quiet _ _ _ moment.control old (if_ok (answer layout moment.past moment.control (Eldb f k p va i)) _) (quiet_ok layout (answer layout moment.past moment.control (Eldb f k p va i)) _ tt)
+  step_counts moment (Eremove f) context old = quiet _ _ _ moment.control old (if_ok (answer layout moment.past moment.control (Eremove f)) _) (quiet_ok layout (answer layout moment.past moment.control (Eremove f)) _ tt)
+  step_counts moment (Epa f) context old = quiet _ _ _ moment.control old (if_ok (answer layout moment.past moment.control (Epa f)) _) (quiet_ok layout (answer layout moment.past moment.control (Epa f)) _ tt)
+  step_counts moment (Discard k) context old = quiet _ _ _ moment.control old (if_ok (answer layout moment.past moment.control (Discard k)) _) (quiet_ok layout (answer layout moment.past moment.control (Discard k)) _ tt)

@@ -1,0 +1,45 @@
+-- In a valid layout, over each tape whose misses fit, each moment keeps the laws of the control state and has a row.
+use Rattle.std.proofs.Common.{List, [], refl}
+use Rattle.std.specs.Prelude.{All}
+use Rattle.std.proofs.lemmas.List.Elements.{All-weaker}
+use Rattle.ak_core.specs.Layout.{Layout, IsValid}
+use Rattle.ak_core.specs.declared.event.Event.{Event}
+use Rattle.ak_core.specs.declared.moves.Move.{Move}
+use Rattle.ak_model.specs.Build.{queue_at_build}
+use Rattle.ak_model.specs.Inside.{someone_inside}
+use Rattle.ak_model.specs.Trace.{trace}
+use Rattle.ak_model.specs.Moments.{moments}
+use Rattle.ak_model.specs.Premises.{MissesFit}
+use Rattle.ak_model.specs.StepRows.{IsInRow}
+use Rattle.ak_model.specs.Orderly.{MomentIsOrderly}
+use Rattle.ak_model.proofs.ValidClusters.{clusters_fit, queue_fits}
+use Rattle.ak_model.proofs.OrderlyTurns.{in_row}
+use Rattle.ak_model.proofs.OrderlyTrace.{trace_fits, moments_fit}
+
+module _ (layout : Layout) (valid : IsValid layout) (tape : List Event) (misses : MissesFit layout (queue_at_build layout.build layout) tape) where
+  built_fits : MomentIsOrderly layout (trace layout tape [])
+  built_fits = record {
+    stack = tt;
+    now = λ e. refl;
+    inside = λ h. absurd (cc);
+    phase = tt;
+    queue = queue_fits layout;
+    tape = misses;
+    pending_only = λ h. absurd (cc);
+    pending_if = λ n r l. absurd (cc);
+    stuck = λ l h. absurd (cc);
+  }
+
+  -- after each move
+  pub trace_is_orderly : (moves : List Move) → MomentIsOrderly layout (trace layout tape moves)
+  trace_is_orderly moves = trace_fits layout (clusters_fit layout valid) tape moves built_fits
+
+  -- and before each turn
+  pub all_orderly : (moves : List Move) → All (MomentIsOrderly layout) (moments layout tape moves)
+  all_orderly moves = moments_fit layout (clusters_fit layout valid) tape moves built_fits
+
+  -- each step has a row
+  pub all_in_row : (moves : List Move) → All (λ moment. IsInRow layout moment.control moment.control.now) (moments layout tape moves)
+  all_in_row moves =
+      All-weaker (MomentIsOrderly layout) (λ moment. IsInRow layout moment.control moment.control.now)
+      (λ moment h. in_row layout (someone_inside layout moment.past) moment.control h) (moments layout tape moves) (all_orderly moves)

@@ -1,0 +1,68 @@
+-- Two parts of the soundness of a journal: the accesses of what completes or traps were reached, and breaks are forced.
+use Rattle.std.specs.Prelude.{◌≡◌, ℕ, true, List, [], ◌∷◌, reverse, filter_map, Option, Some, None}
+use Rattle.ak_core.specs.Layout.{Layout}
+use Rattle.ak_core.specs.Journal.{Journal}
+use Rattle.ak_core.specs.Mem.{Touch}
+use Rattle.ak_core.specs.declared.event.Event.{Event}
+use Rattle.ak_core.specs.declared.event.Event.TheVariants.{Call, Miss, Trap, Break}
+use Rattle.ak_model.specs.Pages.{cluster_at}
+use Rattle.ak_model.specs.Queue.{queue_after, is_in}
+use Rattle.ak_model.specs.Ends.{Runs, runs_of}
+use Rattle.ak_model.specs.ProgramTurns.{ProgramTurn, program_turns}
+use Rattle.ak_model.specs.Reached.{MayComplete}
+use Rattle.ak_model.specs.MayFault.{MayFault}
+
+-- ---- Turns with those before them
+
+-- it holds of each of these turns, the newest first, with those before it
+abbrev pub EachTurn : (ProgramTurn → List ProgramTurn → Type 0) → List ProgramTurn → Type 0
+EachTurn P [] = Unit {0}
+EachTurn P (turn ∷ older) = P turn older × EachTurn P older
+
+-- the cluster that an event misses, if it is a miss
+abbrev pub missed_by : Option Event → Option ℕ
+missed_by (Some (Miss i c)) = Some c
+missed_by _ = None
+
+-- the clusters that are in by the misses of these turns, the newest first
+abbrev pub queue_by : Layout → List ProgramTurn → List ℕ
+queue_by layout older = queue_after layout (reverse (filter_map (λ turn. missed_by turn.event) older))
+
+-- the program turns of a journal, the newest first
+abbrev pub turns_of : Layout → Journal → List ProgramTurn
+turns_of layout journal = program_turns layout journal.events (reverse journal.moves)
+
+-- ---- What completes or traps
+
+-- this holds where a turn with this event completes an instruction or traps
+abbrev pub IfCarriedOut : Option Event → Type 0 → Type 0
+IfCarriedOut None fact = fact
+IfCarriedOut (Some (Call i b a)) fact = fact
+IfCarriedOut (Some (Trap i v)) fact = fact
+IfCarriedOut (Some (Miss i c)) fact = Unit {0}
+IfCarriedOut (Some (Break i)) fact = Unit {0}
+
+-- a turn with this event: where it completes an instruction or traps, its accesses were reached
+abbrev pub ReachedBy : Layout → Runs → ProgramTurn → Option Event → Type 0
+ReachedBy layout runs turn event = IfCarriedOut event (MayComplete layout runs turn)
+
+-- each turn of the journal that completes an instruction or traps has reached its accesses, up to a forbidden one
+pub record TouchesAreReached (image : List ℕ) (layout : Layout) (journal : Journal) : Type 0 where
+  pub turns_reach : EachTurn (λ turn. λ older. ReachedBy layout (runs_of layout image journal) turn turn.event) (turns_of layout journal)
+
+-- ---- Breaks
+
+-- a break is forced: an access may fault though its cluster is in by the misses before
+pub record BreakIsForced (layout : Layout) (runs : Runs) (turn : ProgramTurn) (older : List ProgramTurn) : Type 0 where
+  pub access : Touch
+  pub faults : MayFault layout runs turn access
+  pub inside : is_in (queue_by layout older) (cluster_at layout access.page.0) ≡ true
+
+-- a turn with this event: where it breaks, that is forced
+abbrev pub BrokenBy : Layout → Runs → ProgramTurn → List ProgramTurn → Option Event → Type 0
+BrokenBy layout runs turn older (Some (Break i)) = BreakIsForced layout runs turn older
+BrokenBy layout runs turn older _ = Unit {0}
+
+-- each turn of the journal that breaks is forced to
+pub record BreaksAreForced (image : List ℕ) (layout : Layout) (journal : Journal) : Type 0 where
+  pub turns_break : EachTurn (λ turn. λ older. BrokenBy layout (runs_of layout image journal) turn older turn.event) (turns_of layout journal)

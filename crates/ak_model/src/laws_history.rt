@@ -1,0 +1,63 @@
+// Laws over histories: what moves change, and where pages are. Each is proved of every layout, of either build.
+ghost use Rattle.std.specs.Prelude.{◌≡◌, ◌≤◌, ◌↔◌, ℕ, List, length, drop, true, false, Some};
+ghost use Rattle.ak_core.specs.Layout;
+ghost use Rattle.ak_core.specs.Mem.{Touch};
+ghost use Rattle.ak_core.specs.declared.event.Event.{Event};
+ghost use Rattle.ak_core.specs.declared.moves.Answer.{Answer};
+ghost use Rattle.ak_core.specs.declared.moves.Move.{Move};
+ghost use Rattle.ak_core.specs.declared.page.Kind.{Kind};
+ghost use Rattle.ak_model.specs.Pages.{permits};
+ghost use Rattle.ak_model.specs.Holdings.{PageFrame, InFrame, Sealed};
+ghost use Rattle.ak_model.specs.History.{History, Unchanged, change};
+ghost use Rattle.ak_model.specs.Frames.{held};
+ghost use Rattle.ak_model.specs.Handles.{page_of, discarded, slot, place};
+ghost use Rattle.ak_model.specs.Tracking.{cycles};
+ghost use Rattle.ak_model.specs.Waiting.{AllWait};
+ghost use Rattle.ak_model.specs.Walk.{walkable, touch_walkable};
+ghost use Rattle.ak_model.specs.Control.{Control};
+ghost use Rattle.ak_model.specs.Entering.{control_after};
+ghost use Rattle.ak_model.specs.Trace.{trace};
+ghost use Rattle.ak_model.specs.Blame.{lost_at};
+ghost use Rattle.ak_model.specs.Honours.{is_mapped};
+ghost use Rattle.ak_model.specs.Repeats.{is_done};
+
+/// A move that was not done changes nothing: no scan of the history sees it, and the control state stays.
+pub fn refusals_change_nothing()
+    ensures history { (m : Move) (a : Answer) → is_done a ≡ false → change m a ≡ Unchanged }
+    ensures control { (layout : Layout.Layout) (past : History) (control : Control) (m : Move) (a : Answer)
+        → is_done a ≡ false → control_after layout past control m a ≡ control }
+{}
+
+/// A page is in a frame, or sealed, exactly where its place says so; a slot's handle that is not discarded is its page's
+/// newest copy, and no handle stands in two slots.
+pub fn one_copy()
+    ensures framed { (layout : Layout.Layout) (tape : List Event) (moves : List Move) (p f : ℕ)
+        → (place layout (trace layout tape moves).past p ≡ InFrame f) ↔ (held layout (trace layout tape moves).past f ≡ PageFrame p) }
+    ensures sealed { (layout : Layout.Layout) (tape : List Event) (moves : List Move) (p k : ℕ)
+        → place layout (trace layout tape moves).past p ≡ Sealed k → page_of layout (trace layout tape moves).past k ≡ p }
+    ensures newest { (layout : Layout.Layout) (tape : List Event) (moves : List Move) (va i k : ℕ)
+        → slot layout (trace layout tape moves).past va i ≡ Some k → discarded (trace layout tape moves).past k ≡ false
+        → place layout (trace layout tape moves).past (page_of layout (trace layout tape moves).past k) ≡ Sealed k }
+    ensures one_slot { (layout : Layout.Layout) (tape : List Event) (moves : List Move) (va i va' i' k : ℕ)
+        → slot layout (trace layout tape moves).past va i ≡ Some k → slot layout (trace layout tape moves).past va' i' ≡ Some k
+        → (va ≡ va') × (i ≡ i') }
+{}
+
+/// Each tracking cycle waits for just those processors that were inside before it and have not left since.
+pub fn cycles_wait()
+    ensures { (layout : Layout.Layout) (past : History) → AllWait layout past (cycles layout past) }
+{}
+
+/// A page that is mapped for all that it allows is walkable for each access that it permits.
+pub fn mapped_is_walkable()
+    ensures { (layout : Layout.Layout) (past : History) (p : ℕ) (kind : Kind)
+        → is_mapped layout past p ≡ true → permits layout p kind ≡ true → walkable layout past p kind ≡ true }
+{}
+
+/// From the place where an access was lost on, no walk finds it; and there is such a place where one ever found it.
+pub fn lost_since()
+    ensures since { (layout : Layout.Layout) (t : Touch) (past : History) → touch_walkable layout past t ≡ false
+        → (d : ℕ) → lost_at layout past t ≤ length (drop d past) → touch_walkable layout (drop d past) t ≡ false }
+    ensures some { (layout : Layout.Layout) (t : Touch) (past : History) → touch_walkable layout past t ≡ false
+        → (d : ℕ) → touch_walkable layout (drop d past) t ≡ true → 1 ≤ lost_at layout past t }
+{}
