@@ -2,6 +2,8 @@
 use Rattle.std.specs.Prelude.{◌≡◌, ℕ, Bool, true, false, ◌&&◌, List, [], ◌∷◌, ◌++◌, Option, Some, Result, OnOk, IfErr, ◌==◌, if◌then◌else◌}
 use Rattle.std.specs.List.{list_any}
 use Rattle.ak_core.specs.declared.page.Fault.{Fault}
+use Rattle.ak_core.specs.declared.page.Flags.{Flags}
+use Rattle.ak_core.specs.declared.page.Entry.{Entry}
 use Rattle.ak_core.specs.declared.page.Kind.{Kind}
 use Rattle.ak_core.specs.declared.page.Kind.TheVariants.{Write}
 
@@ -38,3 +40,11 @@ is_writable granted p = list_any (λ t. (t.page.0 == p) && is_write t.kind) gran
 -- one page has these bytes, and the others stay
 abbrev pub with_page : (ℕ → List ℕ) → ℕ → List ℕ → ℕ → List ℕ
 with_page bytes p new q = if q == p then new else bytes q
+
+-- by what a memory finds its pages: how many pages the page table has, the frame and the flags of each page's entry, and the
+-- entries of the EPCM
+pub record Tables : Type 0 where
+  pub pages : ℕ
+  pub frame : ℕ → ℕ
+  pub flags : ℕ → Flags
+  pub entries : List Entry

@@ -1,6 +1,6 @@
 // Memory as a turn sees it.
 ghost use Rattle.std.specs.Prelude.{◌≡◌, ◌<◌, ℕ, Bool, true, List, [], None, Option, length, slice_index, slice_set};
-ghost use Rattle.ak_core.specs.Mem.{Touch, Touches, touch, is_touched, is_writable, with_page};
+ghost use Rattle.ak_core.specs.Mem.{Touch, Tables, Touches, touch, is_touched, is_writable, with_page};
 ghost use Rattle.ak_core.specs.declared.page.Kind.TheVariants.{Read, Write, Exec};
 
 use crate::{Fault, Page};
@@ -20,6 +20,9 @@ pub trait Mem {
     /// The touch that was refused since the turn began, if one was.
     ghost refused: { Self → Option Touch };
 
+    /// The tables by which it finds its pages. No call changes them.
+    ghost tables: { Self → Tables };
+
     /// A page has 4096 bytes.
     ghost whole: { (m : Self) (p : ℕ) → length (bytes m p) ≡ 4096 };
 
@@ -28,28 +31,32 @@ pub trait Mem {
         ensures granted { granted self.new ≡ [] }
         ensures refused { refused self.new ≡ None }
         ensures bytes { bytes self.new ≡ bytes self.old }
-        ensures holds { holds self.new ≡ holds self.old };
+        ensures holds { holds self.new ≡ holds self.old }
+        ensures tables { tables self.new ≡ tables self.old };
 
     /// Touches a page for reading, or answers that very access.
     fn touch_read(&mut self, p: Page) -> Result<(), Fault>
         requires few { length (granted self.old) < 4 }
         ensures touch { Touches (touch p.0 Read) result (holds self.old) (granted self.old) (granted self.new) (refused self.old) (refused self.new) }
         ensures bytes { bytes self.new ≡ bytes self.old }
-        ensures holds { holds self.new ≡ holds self.old };
+        ensures holds { holds self.new ≡ holds self.old }
+        ensures tables { tables self.new ≡ tables self.old };
 
     /// Touches a page for writing, or answers that very access.
     fn touch_write(&mut self, p: Page) -> Result<(), Fault>
         requires few { length (granted self.old) < 4 }
         ensures touch { Touches (touch p.0 Write) result (holds self.old) (granted self.old) (granted self.new) (refused self.old) (refused self.new) }
         ensures bytes { bytes self.new ≡ bytes self.old }
-        ensures holds { holds self.new ≡ holds self.old };
+        ensures holds { holds self.new ≡ holds self.old }
+        ensures tables { tables self.new ≡ tables self.old };
 
     /// Touches a page for executing, or answers that very access.
     fn touch_exec(&mut self, p: Page) -> Result<(), Fault>
         requires few { length (granted self.old) < 4 }
         ensures touch { Touches (touch p.0 Exec) result (holds self.old) (granted self.old) (granted self.new) (refused self.old) (refused self.new) }
         ensures bytes { bytes self.new ≡ bytes self.old }
-        ensures holds { holds self.new ≡ holds self.old };
+        ensures holds { holds self.new ≡ holds self.old }
+        ensures tables { tables self.new ≡ tables self.old };
 
     /// A byte of a page that was touched.
     fn load(&self, p: Page, offset: u16) -> u8
@@ -63,6 +70,7 @@ pub trait Mem {
         requires offset { offset < 4096 }
         ensures bytes { bytes self.new ≡ with_page (bytes self.old) p.0 (slice_set (bytes self.old p.0) offset value) }
         ensures holds { holds self.new ≡ holds self.old }
+        ensures tables { tables self.new ≡ tables self.old }
         ensures granted { granted self.new ≡ granted self.old }
         ensures refused { refused self.new ≡ refused self.old };
 
@@ -78,6 +86,7 @@ pub trait Mem {
         requires length { length from.now ≡ 4096 }
         ensures bytes { bytes self.new ≡ with_page (bytes self.old) p.0 from.now }
         ensures holds { holds self.new ≡ holds self.old }
+        ensures tables { tables self.new ≡ tables self.old }
         ensures granted { granted self.new ≡ granted self.old }
         ensures refused { refused self.new ≡ refused self.old };
 }

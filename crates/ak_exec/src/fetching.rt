@@ -47,6 +47,7 @@ pub(crate) fn fetch<M: Mem>(layout: &Layout, rip: u64, mem: &mut M) -> Fetched
     requires begun { M.granted mem.old ≡ [] }
     requires unrefused { M.refused mem.old ≡ None }
     ensures holds { M.holds mem.new ≡ M.holds mem.old }
+    ensures tables { M.tables mem.new ≡ M.tables mem.old }
     ensures bytes { M.bytes mem.new ≡ M.bytes mem.old }
     ensures refused { M.refused mem.new ≡ refused_fetch result }
     ensures sound { IsSound result }
@@ -84,6 +85,7 @@ fn fetch_across<M: Mem>(mem: &mut M, next: Page, window: &mut ArrayVec<u8, LONGE
     requires few { length (M.granted mem.old) < 4 }
     requires unrefused { M.refused mem.old ≡ None }
     ensures holds { M.holds mem.new ≡ M.holds mem.old }
+    ensures tables { M.tables mem.new ≡ M.tables mem.old }
     ensures bytes { M.bytes mem.new ≡ M.bytes mem.old }
     ensures refused { M.refused mem.new ≡ refused_fetch result }
     ensures sound { IsSound result }

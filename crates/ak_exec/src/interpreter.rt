@@ -75,6 +75,7 @@ pub fn exec<M: Mem>(layout: &Layout, regs: &mut Regs, mem: &mut M) -> Turn
     requires program { regs.old.mode ≡ Mode.Mode.Program }
     requires served { layout.now.build ≡ Build.Build.Resident } // temporary: until the whole table is served
     ensures holds { M.holds mem.new ≡ M.holds mem.old }
+    ensures tables { M.tables mem.new ≡ M.tables mem.old }
     ensures mode { regs.new.mode ≡ regs.old.mode }
     ensures vector { IsVector result }
     ensures refused { M.refused mem.new ≡ refused_by result }

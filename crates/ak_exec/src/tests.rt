@@ -47,7 +47,7 @@ impl TwoPages {
 }
 
 impl Mem for TwoPages {
-    ghost use Rattle.std.specs.Prelude.{true, false, ◌==◌, ◌||◌, ◌&&◌, if◌then◌else◌};
+    ghost use Rattle.std.specs.Prelude.{[], true, false, ◌==◌, ◌||◌, ◌&&◌, if◌then◌else◌};
 
     ghost holds = { λ m p. (p == 0) || ((p == 1) && m.second_is_in) };
 
@@ -56,6 +56,13 @@ impl Mem for TwoPages {
     ghost granted = { λ m. map (λ p. touch p Exec) m.executed.items };
 
     ghost refused = { λ m. m.refused };
+
+    ghost tables = { λ m. record {
+      pages = 0;
+      frame = λ p. 0;
+      flags = λ p. record { p = false; w = false; x = false; a = false; d = false };
+      entries = [];
+    } };
 
     ghost whole = { λ m p. elim (p == 0) as (λ b. length (if b then m.first else m.second) ≡ 4096) [ true ↦ m.first_whole | false ↦ m.second_whole ] };
 
