@@ -10,7 +10,7 @@ use Rattle.ak_model.specs.Flat.{Run, flat_run}
 use Rattle.ak_model.specs.Ends.{Runs}
 use Rattle.ak_model.specs.ProgramTurns.{ProgramTurn}
 use Rattle.ak_model.specs.Reached.{reached, touches_next, touches_at, ComesTo, permitted_touches, MayComplete}
-use Rattle.ak_model.specs.MayFault.{is_granted, MayFault}
+use Rattle.ak_model.specs.MayFault.{may_succeed, MayFault}
 use Rattle.ak_model.specs.Forced.{EachTurn, ReachedBy, BreakIsForced, BrokenBy}
 use Rattle.ak_model.proofs.Answered.{flat_run-longer}
 use Rattle.ak_model.proofs.TurnFacts.{each-from, each-from_both}
@@ -26,7 +26,7 @@ module _ (layout : Layout) (runs runs' : Runs) (turn : ProgramTurn) (same : touc
     stands = ap (λ touches. slice_get touches h.place) same ∙ h.stands;
     permitted = h.permitted;
     unmapped = h.unmapped;
-    earlier = ap (λ touches. list_all (is_granted layout turn) (take h.place touches)) same ∙ h.earlier;
+    earlier = ap (λ touches. list_all (may_succeed layout turn) (take h.place touches)) same ∙ h.earlier;
   }
 
   reached_alike : (event : Option Event) → ReachedBy layout runs turn event → ReachedBy layout runs' turn event

@@ -11,19 +11,21 @@ use Rattle.ak_model.specs.Trace.{trace}
 use Rattle.ak_model.specs.Moments.{moments}
 use Rattle.ak_model.specs.Premises.{MissesFit}
 use Rattle.ak_model.specs.StepRows.{IsInRow}
-use Rattle.ak_model.specs.Orderly.{MomentIsOrderly}
+use Rattle.ak_model.specs.Orderly.{OrderlyAfter, KeepsLaws}
+use Rattle.ak_model.specs.ProgramTurns.{program_turns}
 use Rattle.ak_model.proofs.ValidClusters.{clusters_fit, queue_fits}
 use Rattle.ak_model.proofs.OrderlyTurns.{in_row}
 use Rattle.ak_model.proofs.OrderlyTrace.{trace_fits, moments_fit}
 
 module _ (layout : Layout) (valid : IsValid layout) (tape : List Event) (misses : MissesFit layout (queue_at_build layout.build layout) tape) where
-  built_fits : MomentIsOrderly layout (trace layout tape [])
+  built_fits : OrderlyAfter layout (program_turns layout tape []) (trace layout tape [])
   built_fits = record {
     stack = tt;
     now = λ e. refl;
     inside = λ h. absurd (cc);
     phase = tt;
     queue = queue_fits layout;
+    served = refl;
     tape = misses;
     pending_only = λ h. absurd (cc);
     pending_if = λ n r l. absurd (cc);
@@ -31,15 +33,15 @@ module _ (layout : Layout) (valid : IsValid layout) (tape : List Event) (misses 
   }
 
   -- after each move
-  pub trace_is_orderly : (moves : List Move) → MomentIsOrderly layout (trace layout tape moves)
+  pub trace_is_orderly : (moves : List Move) → OrderlyAfter layout (program_turns layout tape moves) (trace layout tape moves)
   trace_is_orderly moves = trace_fits layout (clusters_fit layout valid) tape moves built_fits
 
   -- and before each turn
-  pub all_orderly : (moves : List Move) → All (MomentIsOrderly layout) (moments layout tape moves)
+  pub all_orderly : (moves : List Move) → All (KeepsLaws layout) (moments layout tape moves)
   all_orderly moves = moments_fit layout (clusters_fit layout valid) tape moves built_fits
 
   -- each step has a row
   pub all_in_row : (moves : List Move) → All (λ moment. IsInRow layout moment.control moment.control.now) (moments layout tape moves)
   all_in_row moves =
-      All-weaker (MomentIsOrderly layout) (λ moment. IsInRow layout moment.control moment.control.now)
-      (λ moment h. in_row layout (someone_inside layout moment.past) moment.control h) (moments layout tape moves) (all_orderly moves)
+      All-weaker (KeepsLaws layout) (λ moment. IsInRow layout moment.control moment.control.now)
+      (λ moment h. in_row layout h.0 (someone_inside layout moment.past) moment.control h.1) (moments layout tape moves) (all_orderly moves)

@@ -1,10 +1,10 @@
 -- Each turn keeps the laws of the control state, and each step of the runtime has a row.
-use Rattle.std.proofs.Common.{◌≡◌, ℕ, zero, suc, ◌+◌, ◌≤◌, List, [], ◌∷◌, length, arith, refl, ap, sym, subst}
+use Rattle.std.proofs.Common.{◌≡◌, ℕ, zero, suc, ◌+◌, ◌≤◌, List, [], ◌∷◌, length, arith, refl, ap, sym, subst, inl, inr, ◌<◌}
 use Rattle.std.specs.Prelude.{Bool, true, false, not, find, if◌then◌else◌, Option, Some, None, is_some, ◌==◌}
 use Rattle.std.specs.Bool.{then_some}
 use Rattle.std.proofs.lemmas.Bool.{eq-eqb}
 use Rattle.ak_core.specs.Layout.{Layout}
-use Rattle.ak_core.specs.Mem.{Touch}
+use Rattle.ak_core.specs.Mem.{Touch, touch}
 use Rattle.ak_core.specs.declared.moves.Exit.{Exit}
 use Rattle.ak_core.specs.declared.event.Event.{Event}
 use Rattle.ak_core.specs.declared.event.Event.TheVariants.{Call, Miss, Trap, Break}
@@ -18,10 +18,14 @@ use Rattle.ak_model.specs.ProgramStep.{count_of, due, without_first, leave_progr
 use Rattle.ak_model.specs.Turns.{turn_of, turn}
 use Rattle.ak_model.specs.Premises.{MissesFit}
 use Rattle.ak_model.specs.StepRows.{HasRow, IsInRow}
-use Rattle.ak_model.specs.Orderly.{ContextFits, NowFits, ReasonFits, FaultFits, refuses_by, PhaseFits, miss_of, after_miss_if, TapeFits, IsOrderly, TurnIsOrderly}
+use Rattle.ak_model.specs.Queue.{after_miss, is_in}
+use Rattle.ak_model.specs.Orderly.{ContextFits, NowFits, ReasonFits, FaultFits, refuses_by, PhaseFits, miss_of, after_miss_if, ServedBy, IsOrderly, TurnIsOrderly, after_event, after_turn, IsOwnAccess}
 use Rattle.ak_model.proofs.OrderlySteps.{empty_if, ClustersFit, effect_fits}
+use Rattle.std.proofs.lemmas.Bool.Decides.{nat_tests}
+use Rattle.ak_core.specs.declared.page.Kind.TheVariants.{Write, Exec}
+use Rattle.ak_model.specs.Pages.{pages, ssa_page, state_page, code_page, strong_kind}
 
-module _ (layout : Layout) where
+module _ (layout : Layout) (so_far : List ℕ) where
   -- ---- The access at which a step faults
 
   abbrev AllFit : Phase → Context → List Touch → Type 0
@@ -36,10 +40,25 @@ module _ (layout : Layout) where
   found phase context test [] t h e = absurd (cc)
   found phase context test (x ∷ all) t h e = found_by test (FaultFits layout phase context) x (test x) (find test all) t h.0 (λ later. found phase context test all t h.1 later) e
 
+  rw_kind : (p : ℕ) → pages layout < p → p < pages layout + 5 → strong_kind layout p ≡ Write
+  rw_kind p low high = grind (arith, nat_tests)
+
+  code_own : IsOwnAccess layout (touch (code_page layout) Exec)
+  code_own = let e : strong_kind layout (code_page layout) ≡ Exec = grind (arith, nat_tests) in (omega arith, omega arith, sym e)
+
+  write_own : (p : ℕ) → pages layout < p → p < pages layout + 5 → IsOwnAccess layout (touch p Write)
+  write_own p low high = (low, omega arith, sym (rw_kind p low high))
+
+  state_own : IsOwnAccess layout (touch (state_page layout) Write)
+  state_own = write_own (state_page layout) (omega arith) (omega arith)
+
+  ssa_own : (i : ℕ) → i ≤ 2 → IsOwnAccess layout (touch (ssa_page layout i) Write)
+  ssa_own i low = write_own (ssa_page layout i) (omega arith) (omega arith)
+
   entry_fit : (control : Control) (k v d : ℕ) → k ≡ d → d ≤ 2 → AllFit control.phase (Entry k v) (touches layout control (Entry k v))
-  entry_fit control zero v d e l = (omega arith, (omega arith, tt))
-  entry_fit control (suc zero) v d e l = (omega arith, (omega arith, (omega arith, tt)))
-  entry_fit control (suc (suc zero)) v d e l = (omega arith, (omega arith, (omega arith, (omega arith, tt))))
+  entry_fit control zero v d e l = (code_own, (state_own, tt))
+  entry_fit control (suc zero) v d e l = (code_own, (state_own, (ssa_own 0 (omega arith), tt)))
+  entry_fit control (suc (suc zero)) v d e l = (code_own, (state_own, (ssa_own 0 (omega arith), (ssa_own 1 (omega arith), tt))))
   entry_fit control (suc (suc (suc k))) v d e l = absurd (omega arith)
 
   -- a context of the runtime
@@ -50,10 +69,10 @@ module _ (layout : Layout) where
   all_fit : (control : Control) (context : Context) → IsRuntime context → ContextFits layout control.phase (length control.stack) context → AllFit control.phase context (touches layout control context)
   all_fit control Program r h = absurd r
   all_fit control (Entry k v) r h = entry_fit control k v (length control.stack) h.0 h.1
-  all_fit control (Probe i) r h = (λ l. absurd (omega arith), (λ l. absurd (omega arith), (λ l. refl, tt)))
-  all_fit control Finish r h = (omega arith, (omega arith, (omega arith, tt)))
-  all_fit control Guard r h = (omega arith, (omega arith, tt))
-  all_fit control (Leave b a) r h = (omega arith, (omega arith, tt))
+  all_fit control (Probe i) r h = (inr code_own, (inr state_own, (inl refl, tt)))
+  all_fit control Finish r h = (code_own, (state_own, (ssa_own 0 (omega arith), tt)))
+  all_fit control Guard r h = (code_own, (state_own, tt))
+  all_fit control (Leave b a) r h = (code_own, (state_own, tt))
 
   faults_by : (walks : Bool) (past : History) (control : Control) (context : Context) (t : Touch) → IsRuntime context → ContextFits layout control.phase (length control.stack) context → (if walks then first_fault layout past (touches layout control context) else None) ≡ Some t → FaultFits layout control.phase context t
   faults_by true past control context t r h e = found control.phase context (λ x. not (touch_walkable layout past x)) (touches layout control context) t (all_fit control context r h) e
@@ -61,15 +80,15 @@ module _ (layout : Layout) where
 
   -- ---- A step that faults
 
-  pub pushed_tape : (phase : Phase) (queue : List ℕ) (saved : Saved) (stack : List Saved) (rest : List Event) → miss_of saved.reason ≡ None → TapeFits layout phase queue stack rest → TapeFits layout phase queue (saved ∷ stack) rest
-  pushed_tape New queue saved stack rest e h = h
-  pushed_tape Calling queue saved stack rest e h = h
-  pushed_tape Running queue saved [] rest e h = subst (λ o. MissesFit layout (after_miss_if layout queue o) rest) (sym e) h
-  pushed_tape Running queue saved (next ∷ older) rest e h = h
-  pushed_tape (Asked c) queue saved stack rest e h = h
-  pushed_tape (Ended s) queue saved stack rest e h = h
-  pushed_tape (Trapped v) queue saved stack rest e h = h
-  pushed_tape Dead queue saved stack rest e h = h
+  pub pushed_served : (phase : Phase) (queue : List ℕ) (saved : Saved) (stack : List Saved) → miss_of saved.reason ≡ None → ServedBy layout so_far phase queue stack → ServedBy layout so_far phase queue (saved ∷ stack)
+  pushed_served New queue saved stack e h = h
+  pushed_served Calling queue saved stack e h = h
+  pushed_served Running queue saved [] e h = subst (λ o. after_miss_if layout queue o ≡ so_far) (sym e) h
+  pushed_served Running queue saved (next ∷ older) e h = h
+  pushed_served (Asked c) queue saved stack e h = h
+  pushed_served (Ended s) queue saved stack e h = h
+  pushed_served (Trapped v) queue saved stack e h = h
+  pushed_served Dead queue saved stack e h = h
 
   more_cause : (phase : Phase) (queue : List ℕ) (cause cause' : Option Cause) → (is_some cause ≡ true → is_some cause' ≡ true) → PhaseFits layout queue cause phase → PhaseFits layout queue cause' phase
   more_cause New queue cause cause' m h = h
@@ -90,14 +109,15 @@ module _ (layout : Layout) where
   first_is (Some earlier) cause true h = refl
   first_is earlier cause false h = absurd (cc)
 
-  fault_fits : (control : Control) (context : Context) (t : Touch) → IsOrderly layout true control → ContextFits layout control.phase (length control.stack) context → FaultFits layout control.phase context t → TurnIsOrderly layout (fault layout control context t)
+  fault_fits : (control : Control) (context : Context) (t : Touch) → IsOrderly layout so_far true control → ContextFits layout control.phase (length control.stack) context → FaultFits layout control.phase context t → TurnIsOrderly layout so_far (fault layout control context t)
   fault_fits control context t old fits at = record {
     stack = (record { context = fits; reason = at }, old.stack);
     now = λ e. absurd (omega arith);
     inside = λ h. absurd (cc);
     phase = more_cause control.phase control.queue control.cause (stuck_cause control t) (first_stays control.cause (Named (Stuck t.page t.kind)) (cssa control == 2)) old.phase;
     queue = old.queue;
-    tape = pushed_tape control.phase control.queue (record { context = context; reason = Faulted t }) control.stack control.rest refl old.tape;
+    served = pushed_served control.phase control.queue (record { context = context; reason = Faulted t }) control.stack refl old.served;
+    tape = old.tape;
     pending_only = λ h. (refl, refl);
     pending_if = λ n r l. refl;
     stuck = λ l h. let two : cssa control ≡ 2 = omega arith in first_is control.cause (Named (Stuck t.page t.kind)) (cssa control == 2) (eq-eqb (cssa control) 2 two);
@@ -105,12 +125,13 @@ module _ (layout : Layout) where
 
   -- ---- A turn of the program
 
-  module _ (control : Control) (old : IsOrderly layout true control) (is_now : control.now ≡ Some Program) (none : length control.stack ≡ 0) (running : control.phase ≡ Running) where
+  module _ (control : Control) (old : IsOrderly layout so_far true control) (is_now : control.now ≡ Some Program) (none : length control.stack ≡ 0) (running : control.phase ≡ Running) where
     empty : control.stack ≡ []
     empty = empty_if control.stack none
 
-    here : MissesFit layout control.queue control.rest
-    here = subst (λ s. TapeFits layout Running control.queue s control.rest) empty (subst (λ p. TapeFits layout p control.queue control.stack control.rest) running old.tape)
+    -- the misses so far are served
+    here : control.queue ≡ so_far
+    here = subst (λ s. ServedBy layout so_far Running control.queue s) empty (subst (λ p. ServedBy layout so_far p control.queue control.stack) running old.served)
 
     not_pending : control.pending ≡ true → ⊥
     not_pending h =
@@ -118,87 +139,92 @@ module _ (layout : Layout) where
         let some : is_some control.now ≡ true = ap is_some is_now in
         cc
 
-    saved_tape : (reason : Reason) (rest : List Event) → MissesFit layout (after_miss_if layout control.queue (miss_of reason)) rest → TapeFits layout control.phase control.queue (record { context = Program; reason = reason } ∷ control.stack) rest
-    saved_tape reason rest h =
-        subst (λ p. TapeFits layout p control.queue (record { context = Program; reason = reason } ∷ control.stack) rest) (sym running)
-        (subst (λ s. TapeFits layout Running control.queue (record { context = Program; reason = reason } ∷ s) rest) (sym empty) h)
+    saved_served : (reason : Reason) (next : List ℕ) → after_miss_if layout control.queue (miss_of reason) ≡ next → ServedBy layout next control.phase control.queue (record { context = Program; reason = reason } ∷ control.stack)
+    saved_served reason next h =
+        subst (λ p. ServedBy layout next p control.queue (record { context = Program; reason = reason } ∷ control.stack)) (sym running)
+        (subst (λ s. ServedBy layout next Running control.queue (record { context = Program; reason = reason } ∷ s)) (sym empty) h)
 
-    left_program : (exit : Exit) (reason : Reason) → ReasonFits layout control.phase control.queue Program reason → refuses_by reason ≡ true → MissesFit layout (after_miss_if layout control.queue (miss_of reason)) (without_first control.rest) → TurnIsOrderly layout (leave_program exit reason control)
-    left_program exit reason fits refuses t = record {
+    left_program : (exit : Exit) (reason : Reason) (next : List ℕ) → ReasonFits layout control.phase control.queue Program reason → refuses_by reason ≡ true → after_miss_if layout control.queue (miss_of reason) ≡ next → MissesFit layout next (without_first control.rest) → TurnIsOrderly layout next (leave_program exit reason control)
+    left_program exit reason next fits refuses s t = record {
       stack = (record { context = (none, running); reason = fits }, old.stack);
       now = λ e. absurd (omega arith);
       inside = λ h. absurd (cc);
       phase = old.phase;
       queue = old.queue;
-      tape = saved_tape reason (without_first control.rest) t;
+      served = saved_served reason next s;
+      tape = t;
       pending_only = λ h. (refl, refuses);
       pending_if = λ n r l. refl;
       stuck = λ l h. absurd (omega arith);
     }
 
-    goes_on : (next : Context) (rest : List Event) (count : ℕ) → ContextFits layout control.phase (length control.stack) next → MissesFit layout control.queue rest → IsOrderly layout true (record control { count = count; rest = rest; now = Some next })
+    goes_on : (next : Context) (rest : List Event) (count : ℕ) → ContextFits layout control.phase (length control.stack) next → MissesFit layout so_far rest → IsOrderly layout so_far true (record control { count = count; rest = rest; now = Some next })
     goes_on next rest count fits t = record {
       stack = old.stack;
       now = fits;
       inside = λ h. refl;
       phase = old.phase;
       queue = old.queue;
-      tape = subst (λ p. TapeFits layout p control.queue control.stack rest) (sym running) (subst (λ s. TapeFits layout Running control.queue s rest) (sym empty) t);
+      served = old.served;
+      tape = t;
       pending_only = λ h. absurd (not_pending h);
       pending_if = λ n r l. absurd (cc);
       stuck = λ l h. absurd (not_pending h);
     }
 
-    vector_fits : (denied : Bool) (v : ℕ) → MissesFit layout control.queue (without_first control.rest) → TurnIsOrderly layout (if denied then leave_program (shown_fault layout) Denied control else leave_program (Exit.Vector v) (Raised v) control)
-    vector_fits true v t = left_program (shown_fault layout) Denied refl refl t
-    vector_fits false v t = left_program (Exit.Vector v) (Raised v) refl refl t
+    vector_fits : (denied : Bool) (v : ℕ) → MissesFit layout so_far (without_first control.rest) → TurnIsOrderly layout so_far (if denied then leave_program (shown_fault layout) Denied control else leave_program (Exit.Vector v) (Raised v) control)
+    vector_fits true v t = left_program (shown_fault layout) Denied so_far refl refl here t
+    vector_fits false v t = left_program (Exit.Vector v) (Raised v) so_far refl refl here t
 
-    event_fits : (x : Event) → MissesFit layout control.queue (x ∷ without_first control.rest) → TurnIsOrderly layout (event_turn layout control (Some x))
+    event_fits : (x : Event) → MissesFit layout so_far (x ∷ without_first control.rest) → TurnIsOrderly layout (after_event layout so_far (Some x)) (event_turn layout control (Some x))
     event_fits (Call i b a) h = goes_on (Leave b a) (without_first control.rest) (control.count + 1) (none, running) h
-    event_fits (Miss i c) h = left_program (shown_fault layout) (Missed c) (refl, h.0, h.1) refl h.2
-    event_fits (Break i) h = left_program (shown_fault layout) Broke refl refl h
+    event_fits (Miss i c) h =
+        left_program (shown_fault layout) (Missed c) (after_miss layout so_far c) (refl, h.0, subst (λ q. is_in q c ≡ false) (sym here) h.1) refl
+        (ap (λ q. after_miss layout q c) here) h.2
+    event_fits (Break i) h = left_program (shown_fault layout) Broke so_far refl refl here h
     event_fits (Trap i v) h = vector_fits (v == 14) v h
 
-    counted : IsOrderly layout true (record control { count = control.count + 1 })
+    counted : IsOrderly layout so_far true (record control { count = control.count + 1 })
     counted = record {
       stack = old.stack;
       now = old.now;
       inside = old.inside;
       phase = old.phase;
       queue = old.queue;
+      served = old.served;
       tape = old.tape;
       pending_only = old.pending_only;
       pending_if = old.pending_if;
       stuck = old.stuck;
     }
 
-    due_fits : (b : Bool) (x : Event) → MissesFit layout control.queue (x ∷ without_first control.rest) → TurnIsOrderly layout (event_turn layout control (then_some b x))
+    due_fits : (b : Bool) (x : Event) → MissesFit layout so_far (x ∷ without_first control.rest) → TurnIsOrderly layout (after_event layout so_far (then_some b x)) (event_turn layout control (then_some b x))
     due_fits true x h = event_fits x h
     due_fits false x h = counted
 
-    tape_fits : (rest : List Event) → control.rest ≡ rest → TurnIsOrderly layout (event_turn layout control (due control.count rest))
+    tape_fits : (rest : List Event) → control.rest ≡ rest → TurnIsOrderly layout (after_event layout so_far (due control.count rest)) (event_turn layout control (due control.count rest))
     tape_fits [] e = counted
     tape_fits (x ∷ rest) e =
         let first : without_first control.rest ≡ rest = ap without_first e in
-        let fits : MissesFit layout control.queue (x ∷ rest) = subst (MissesFit layout control.queue) e here in
-        due_fits (count_of x == control.count) x (subst (λ r. MissesFit layout control.queue (x ∷ r)) (sym first) fits)
+        let fits : MissesFit layout so_far (x ∷ rest) = subst (MissesFit layout so_far) e old.tape in
+        due_fits (count_of x == control.count) x (subst (λ r. MissesFit layout so_far (x ∷ r)) (sym first) fits)
 
-    program_fits : TurnIsOrderly layout (program_turn layout control)
+    program_fits : TurnIsOrderly layout (after_turn layout so_far control (Some Program)) (program_turn layout control)
     program_fits = tape_fits control.rest refl
 
   -- ---- Any turn
 
-  module _ (fit : ClustersFit layout) (past : History) (control : Control) (old : IsOrderly layout true control) where
-    unless_fits : (context : Context) (o : Option Touch) → control.now ≡ Some context → ContextFits layout control.phase (length control.stack) context → ((t : Touch) → o ≡ Some t → FaultFits layout control.phase context t) → TurnIsOrderly layout (unless_fault layout control context o)
-    unless_fits context None n fits at = effect_fits layout fit control old context n context fits
+  module _ (fit : ClustersFit layout) (past : History) (control : Control) (old : IsOrderly layout so_far true control) where
+    unless_fits : (context : Context) (o : Option Touch) → control.now ≡ Some context → ContextFits layout control.phase (length control.stack) context → ((t : Touch) → o ≡ Some t → FaultFits layout control.phase context t) → TurnIsOrderly layout so_far (unless_fault layout control context o)
+    unless_fits context None n fits at = effect_fits layout fit so_far control old context n context fits
     unless_fits context (Some t) n fits at = fault_fits control context t old fits (at t refl)
 
-    runtime_fits : (context : Context) → IsRuntime context → control.now ≡ Some context → ContextFits layout control.phase (length control.stack) context → TurnIsOrderly layout (runtime_turn layout past control context)
+    runtime_fits : (context : Context) → IsRuntime context → control.now ≡ Some context → ContextFits layout control.phase (length control.stack) context → TurnIsOrderly layout so_far (runtime_turn layout past control context)
     runtime_fits context r n fits =
         unless_fits context (step_fault layout past (touches layout control context)) n fits
         (λ t e. faults_by (steps_walk layout.build) past control context t r fits e)
 
-    turn_by : (now : Option Context) → control.now ≡ now → NowFits layout control.phase control.stack now → TurnIsOrderly layout (turn_of layout past control now)
+    turn_by : (now : Option Context) → control.now ≡ now → NowFits layout control.phase control.stack now → TurnIsOrderly layout (after_turn layout so_far control now) (turn_of layout past control now)
     turn_by None n h = old
     turn_by (Some Program) n h = program_fits control old n h.0 h.1
     turn_by (Some (Entry k v)) n h = runtime_fits (Entry k v) tt n h
@@ -208,12 +234,12 @@ module _ (layout : Layout) where
     turn_by (Some (Leave b a)) n h = runtime_fits (Leave b a) tt n h
 
     -- a turn keeps the laws
-    pub turn_fits : TurnIsOrderly layout (turn layout past control)
+    pub turn_fits : TurnIsOrderly layout (after_turn layout so_far control control.now) (turn layout past control)
     turn_fits = turn_by control.now refl old.now
 
   -- ---- Rows
 
-  module _ (someone : Bool) (control : Control) (old : IsOrderly layout someone control) where
+  module _ (someone : Bool) (control : Control) (old : IsOrderly layout so_far someone control) where
     has_row : (k v : ℕ) → ContextFits layout control.phase (length control.stack) (Entry k v) → HasRow layout control (Entry k v)
     has_row zero v h = (sym h.0, h.2 (sym h.0))
     has_row (suc k) v h = sym h.0
@@ -230,3 +256,10 @@ module _ (layout : Layout) where
     -- what is inside has a row
     pub in_row : IsInRow layout control control.now
     in_row = row_by control.now old.now
+
+    -- where the program is inside, the misses so far are served
+    pub in_program : control.now ≡ Some Program → control.queue ≡ so_far
+    in_program n =
+        let fits : ContextFits layout control.phase (length control.stack) Program = subst (NowFits layout control.phase control.stack) n old.now in
+        let empty : control.stack ≡ [] = empty_if control.stack fits.0 in
+        subst (λ s. ServedBy layout so_far Running control.queue s) empty (subst (λ p. ServedBy layout so_far p control.queue control.stack) fits.1 old.served)

@@ -16,7 +16,7 @@ use Rattle.ak_model.specs.Flat.{is_forbidden}
 use Rattle.ak_model.specs.Ends.{Runs}
 use Rattle.ak_model.specs.ProgramTurns.{ProgramTurn}
 use Rattle.ak_model.specs.Reached.{reached_since, reached, touches_at, permitted_touches, MayComplete}
-use Rattle.ak_model.specs.MayFault.{is_granted, MayFault}
+use Rattle.ak_model.specs.MayFault.{may_succeed, MayFault}
 
 -- ---- The entering lies in the history
 
@@ -95,7 +95,7 @@ module _ (layout : Layout) where
         let both = and_parts (touch_walkable layout turn.past t) (list_all (touch_walkable layout turn.past) granted) h in
         rw (walkable-reached turn t within both.0, all_reached granted both.1) refl
 
-    all_granted : (granted : List Touch) → list_all (touch_walkable layout turn.past) granted ≡ true → list_all (is_granted layout turn) granted ≡ true
+    all_granted : (granted : List Touch) → list_all (touch_walkable layout turn.past) granted ≡ true → list_all (may_succeed layout turn) granted ≡ true
     all_granted [] h = refl
     all_granted (t ∷ granted) h =
         let both = and_parts (touch_walkable layout turn.past t) (list_all (touch_walkable layout turn.past) granted) h in
@@ -129,7 +129,7 @@ module _ (layout : Layout) where
       stands = ap (λ touches. slice_get touches (length granted)) e ∙ next_is granted rest t;
       permitted = permitted;
       unmapped = unmapped;
-      earlier = ap (λ touches. list_all (is_granted layout turn) (take (length granted) touches)) e
-          ∙ ap (list_all (is_granted layout turn)) (take-append_seam granted (t ∷ rest))
+      earlier = ap (λ touches. list_all (may_succeed layout turn) (take (length granted) touches)) e
+          ∙ ap (list_all (may_succeed layout turn)) (take-append_seam granted (t ∷ rest))
           ∙ all_granted granted h;
     }

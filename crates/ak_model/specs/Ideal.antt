@@ -8,9 +8,9 @@ use Rattle.ak_model.specs.Queue.{after_miss, is_in}
 use Rattle.ak_model.specs.Flat.{Run, flat_run}
 use Rattle.ak_model.specs.Reached.{touches_next, permitted_touches}
 
--- the accesses that a run's next instruction may make: all before the first forbidden one
-abbrev pub next_permitted : Layout → Option Run → List Touch
-next_permitted layout run = permitted_touches layout (touches_next layout run)
+-- the accesses of a run's next instruction, up to the first forbidden one
+abbrev pub touches_of : Layout → Option Run → List Touch
+touches_of layout run = permitted_touches layout (touches_next layout run)
 
 -- the first access whose cluster is out
 abbrev pub first_out : Layout → List ℕ → List Touch → Option Touch
@@ -36,9 +36,9 @@ abbrev pub ideal_queue : Layout → List ℕ → List ℕ → ℕ → List ℕ
 ideal_queue layout image answers zero = queue_at_build layout.build layout
 ideal_queue layout image answers (suc i) =
     fold (after_miss layout) (ideal_queue layout image answers i)
-    (misses_from layout (next_permitted layout (flat_run layout image answers i)) (ideal_queue layout image answers i))
+    (misses_from layout (touches_of layout (flat_run layout image answers i)) (ideal_queue layout image answers i))
 
 -- the misses of instruction i; none where the flat run does not come to it
 abbrev pub ideal : Layout → List ℕ → List ℕ → ℕ → List ℕ
 ideal layout image answers i =
-    misses_from layout (next_permitted layout (flat_run layout image answers i)) (ideal_queue layout image answers i)
+    misses_from layout (touches_of layout (flat_run layout image answers i)) (ideal_queue layout image answers i)

@@ -42,3 +42,8 @@ pub mod Evicts
 pub mod Ideal
 pub mod Repeats
 pub mod HonestKernel
+pub mod Blamed
+pub mod Kept
+pub mod Misses
+pub mod Stopped
+pub mod Sound

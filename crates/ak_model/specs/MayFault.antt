@@ -9,15 +9,15 @@ use Rattle.ak_model.specs.Ends.{Runs}
 use Rattle.ak_model.specs.ProgramTurns.{ProgramTurn}
 use Rattle.ak_model.specs.Reached.{reached, touches_at}
 
--- the access is permitted, and was reached
-abbrev pub is_granted : Layout → ProgramTurn → Touch → Bool
-is_granted layout turn t = not (is_forbidden layout t) && reached layout turn t
+-- the access may succeed: it is permitted, and was reached
+abbrev pub may_succeed : Layout → ProgramTurn → Touch → Bool
+may_succeed layout turn t = not (is_forbidden layout t) && reached layout turn t
 
 -- this access of the turn's instruction may fault: it is permitted, no walk finds it at the turn, and each access of the
--- instruction before it is permitted and was reached
+-- instruction before it may succeed
 pub record MayFault (layout : Layout) (runs : Runs) (turn : ProgramTurn) (t : Touch) : Type 0 where
   pub place : ℕ
   pub stands : slice_get (touches_at layout runs turn) place ≡ Some t
   pub permitted : is_forbidden layout t ≡ false
   pub unmapped : touch_walkable layout turn.past t ≡ false
-  pub earlier : IsTrue (list_all (is_granted layout turn) (take place (touches_at layout runs turn)))
+  pub earlier : IsTrue (list_all (may_succeed layout turn) (take place (touches_at layout runs turn)))

@@ -1,18 +1,22 @@
 -- The laws of the control state. They hold at each moment, whatever the kernel does, and whatever the program shows, as long
 -- as each miss is of a cluster that is out.
-use Rattle.std.specs.Prelude.{◌≡◌, ℕ, ◌+◌, ◌<◌, ◌≤◌, Bool, true, false, List, [], ◌∷◌, ◌++◌, length, All, Option, Some, None, is_some, slice_index}
+use Rattle.std.specs.Prelude.{◌≡◌, ◌⊎◌, ℕ, ◌+◌, ◌<◌, ◌≤◌, Bool, true, false, List, [], ◌∷◌, ◌++◌, length, All, Option, Some, None, is_some, slice_index}
 use Rattle.ak_core.specs.Layout.{Layout}
 use Rattle.ak_core.specs.Mem.{Touch, touch}
 use Rattle.ak_core.specs.declared.build.Build.{Build}
 use Rattle.ak_core.specs.declared.build.Build.TheVariants.{Resident, Sealed as SealedBuild}
 use Rattle.ak_core.specs.declared.event.Event.{Event}
-use Rattle.ak_model.specs.Pages.{pages, strong_kind, size_of}
+use Rattle.ak_model.specs.Pages.{pages, all_pages, strong_kind, size_of}
 use Rattle.ak_model.specs.Queue.{total_size, after_miss, is_in}
 use Rattle.ak_model.specs.Control.{Phase, New, Running, Calling, Asked, Ended, Trapped, Dead, Context, Program, Entry, Probe, Finish, Guard, Leave, Reason, Interrupted, Cleared, Raised, Denied, Missed, Broke, Faulted, Saved, Cause, Control, is_asked}
 use Rattle.ak_model.specs.Turn.{Turn, Goes, Leaves}
+use Rattle.ak_core.specs.declared.event.Event.TheVariants.{Miss}
+use Rattle.ak_model.specs.ProgramStep.{due}
 use Rattle.ak_model.specs.RuntimeStep.{asked_pages}
 use Rattle.ak_model.specs.Inside.{someone_inside}
 use Rattle.ak_model.specs.Trace.{Moment}
+use Rattle.ak_model.specs.ProgramTurns.{ProgramTurn}
+use Rattle.ak_model.specs.Forced.{queue_by}
 use Rattle.ak_model.specs.Premises.{MissesFit}
 use Rattle.ak_model.specs.StepRows.{opens, guards}
 
@@ -41,12 +45,20 @@ is_clearable Program = true
 is_clearable Guard = true
 is_clearable _ = false
 
--- the access at which a step faulted: a probe's own page, or a page of the runtime. The program has no such reason
+-- an access of the runtime's own: a page of the runtime but the TCS, for all that the page allows
+abbrev pub IsOwnAccess : Layout → Touch → Type 0
+IsOwnAccess layout t =
+    (pages layout < t.page.0) × (t.page.0 < all_pages layout) × (t.kind ≡ strong_kind layout t.page.0)
+
+-- the page that a probe accesses, for all that the page allows
+abbrev pub probed : Layout → Phase → ℕ → Touch
+probed layout phase i = let p = slice_index (asked_pages layout phase) i in touch p (strong_kind layout p)
+
+-- the access at which a step faulted: one of the runtime's own, or a probe's page. The program has no such reason
 abbrev pub FaultFits : Layout → Phase → Context → Touch → Type 0
 FaultFits layout phase Program t = ⊥
-FaultFits layout phase (Probe i) t =
-    let p = slice_index (asked_pages layout phase) i in t.page.0 < pages layout → t ≡ touch p (strong_kind layout p)
-FaultFits layout phase _ t = pages layout ≤ t.page.0
+FaultFits layout phase (Probe i) t = (t ≡ probed layout phase i) ⊎ IsOwnAccess layout t
+FaultFits layout phase _ t = IsOwnAccess layout t
 
 -- why a context was saved: a vector, a denied access, a miss and a break are the program's; a missed cluster is out
 abbrev pub ReasonFits : Layout → Phase → List ℕ → Context → Reason → Type 0
@@ -130,33 +142,53 @@ abbrev pub after_miss_if : Layout → List ℕ → Option ℕ → List ℕ
 after_miss_if layout queue None = queue
 after_miss_if layout queue (Some c) = after_miss layout queue c
 
--- the misses to come are of clusters that are out by the misses so far, served or not
-abbrev pub TapeFits : Layout → Phase → List ℕ → List Saved → List Event → Type 0
-TapeFits layout New queue stack rest = MissesFit layout queue rest
-TapeFits layout Calling queue stack rest = MissesFit layout queue rest
-TapeFits layout Running queue stack rest = MissesFit layout (after_miss_if layout queue (oldest_miss stack)) rest
-TapeFits layout (Asked c) queue stack rest = MissesFit layout (queue ++ c ∷ []) rest
-TapeFits layout _ queue stack rest = Unit {0}
+-- what is in by the misses so far is the queue, with the cluster that is asked for, or after the miss that was not asked for
+-- yet. After the program's end it does not matter
+abbrev pub ServedBy : Layout → List ℕ → Phase → List ℕ → List Saved → Type 0
+ServedBy layout so_far New queue stack = queue ≡ so_far
+ServedBy layout so_far Calling queue stack = queue ≡ so_far
+ServedBy layout so_far Running queue stack = after_miss_if layout queue (oldest_miss stack) ≡ so_far
+ServedBy layout so_far (Asked c) queue stack = queue ++ c ∷ [] ≡ so_far
+ServedBy layout so_far _ queue stack = Unit {0}
 
 -- ---- All laws
 
--- a control state keeps all laws, where somebody is inside or not
-pub record IsOrderly (layout : Layout) (someone : Bool) (control : Control) : Type 0 where
+-- a control state keeps all laws, where these clusters are in by the misses so far, and somebody is inside or not
+pub record IsOrderly (layout : Layout) (so_far : List ℕ) (someone : Bool) (control : Control) : Type 0 where
   pub stack : StackFits layout control.phase control.queue control.stack
   pub now : NowFits layout control.phase control.stack control.now
   pub inside : is_some control.now ≡ true → someone ≡ true
   pub phase : PhaseFits layout control.queue control.cause control.phase
   pub queue : QueueFits layout control.queue
-  pub tape : TapeFits layout control.phase control.queue control.stack control.rest
+  pub served : ServedBy layout so_far control.phase control.queue control.stack
+  pub tape : MissesFit layout so_far control.rest
   pub pending_only : control.pending ≡ true → (is_some control.now ≡ false) × (is_refused control.stack ≡ true)
   pub pending_if : is_some control.now ≡ false → is_refused control.stack ≡ true → is_live control.phase ≡ true → control.pending ≡ true
   pub stuck : length control.stack ≡ 3 → control.pending ≡ true → is_some control.cause ≡ true
 
 -- what a turn came to keeps all laws; nobody is inside after it left
-abbrev pub TurnIsOrderly : Layout → Turn → Type 0
-TurnIsOrderly layout (Goes control) = IsOrderly layout true control
-TurnIsOrderly layout (Leaves exit control) = IsOrderly layout false control
+abbrev pub TurnIsOrderly : Layout → List ℕ → Turn → Type 0
+TurnIsOrderly layout so_far (Goes control) = IsOrderly layout so_far true control
+TurnIsOrderly layout so_far (Leaves exit control) = IsOrderly layout so_far false control
+
+-- the clusters that are in by the misses so far, after one more event
+abbrev pub after_event : Layout → List ℕ → Option Event → List ℕ
+after_event layout so_far (Some (Miss i c)) = after_miss layout so_far c
+after_event layout so_far _ = so_far
+
+-- and after a turn in this context: the program alone misses
+abbrev pub after_turn : Layout → List ℕ → Control → Option Context → List ℕ
+after_turn layout so_far control (Some Program) = after_event layout so_far (due control.count control.rest)
+after_turn layout so_far control _ = so_far
 
 -- a moment keeps all laws
-abbrev pub MomentIsOrderly : Layout → Moment → Type 0
-MomentIsOrderly layout moment = IsOrderly layout (someone_inside layout moment.past) moment.control
+abbrev pub MomentIsOrderly : Layout → List ℕ → Moment → Type 0
+MomentIsOrderly layout so_far moment = IsOrderly layout so_far (someone_inside layout moment.past) moment.control
+
+-- and so it does with the misses of the program turns so far, the newest first
+abbrev pub OrderlyAfter : Layout → List ProgramTurn → Moment → Type 0
+OrderlyAfter layout turns moment = MomentIsOrderly layout (queue_by layout turns) moment
+
+-- a moment keeps all laws with the misses of some turns
+abbrev pub KeepsLaws : Layout → Moment → Type 0
+KeepsLaws layout moment = (so_far : List ℕ) × MomentIsOrderly layout so_far moment

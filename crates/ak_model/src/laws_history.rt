@@ -1,12 +1,13 @@
 // Laws over histories: what moves change, and where pages are. Each is proved of every layout, of either build.
-ghost use Rattle.std.specs.Prelude.{◌≡◌, ◌≤◌, ◌↔◌, ℕ, List, length, drop, true, false, Some};
+ghost use Rattle.std.specs.Prelude.{◌≡◌, ◌≤◌, ◌<◌, ◌↔◌, ℕ, List, length, drop, true, false, Some};
 ghost use Rattle.ak_core.specs.Layout;
 ghost use Rattle.ak_core.specs.Mem.{Touch};
 ghost use Rattle.ak_core.specs.declared.event.Event.{Event};
 ghost use Rattle.ak_core.specs.declared.moves.Answer.{Answer};
 ghost use Rattle.ak_core.specs.declared.moves.Move.{Move};
 ghost use Rattle.ak_core.specs.declared.page.Kind.{Kind};
-ghost use Rattle.ak_model.specs.Pages.{permits};
+ghost use Rattle.ak_core.specs.declared.build.Build.TheVariants.{Resident};
+ghost use Rattle.ak_model.specs.Pages.{pages, permits};
 ghost use Rattle.ak_model.specs.Holdings.{PageFrame, InFrame, Sealed};
 ghost use Rattle.ak_model.specs.History.{History, Unchanged, change};
 ghost use Rattle.ak_model.specs.Frames.{held};
@@ -19,6 +20,7 @@ ghost use Rattle.ak_model.specs.Entering.{control_after};
 ghost use Rattle.ak_model.specs.Trace.{trace};
 ghost use Rattle.ak_model.specs.Blame.{lost_at};
 ghost use Rattle.ak_model.specs.Honours.{is_mapped};
+ghost use Rattle.ak_model.specs.Orderly.{IsOwnAccess};
 ghost use Rattle.ak_model.specs.Repeats.{is_done};
 
 /// A move that was not done changes nothing: no scan of the history sees it, and the control state stays.
@@ -60,4 +62,14 @@ pub fn lost_since()
         → (d : ℕ) → lost_at layout past t ≤ length (drop d past) → touch_walkable layout (drop d past) t ≡ false }
     ensures some { (layout : Layout.Layout) (t : Touch) (past : History) → touch_walkable layout past t ≡ false
         → (d : ℕ) → touch_walkable layout (drop d past) t ≡ true → 1 ≤ lost_at layout past t }
+{}
+
+/// A move is to blame where no walk finds an access of the runtime's own, or a permitted access of the program whose page the
+/// build left in a frame.
+pub fn some_move_lost()
+    ensures own { (layout : Layout.Layout) (past : History) (t : Touch) → IsOwnAccess layout t
+        → touch_walkable layout past t ≡ false → 1 ≤ lost_at layout past t }
+    ensures resident { (layout : Layout.Layout) (past : History) (t : Touch) → layout.build ≡ Resident
+        → t.page.0 < pages layout → permits layout t.page.0 t.kind ≡ true
+        → touch_walkable layout past t ≡ false → 1 ≤ lost_at layout past t }
 {}

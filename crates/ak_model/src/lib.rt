@@ -5,4 +5,6 @@
 pub mod laws;
 pub mod laws_control;
 pub mod laws_history;
+pub mod laws_program;
 pub mod laws_queue;
+pub mod laws_sound;

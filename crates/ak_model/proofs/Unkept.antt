@@ -1,0 +1,128 @@
+-- What holds of misses and breaks where translations are kept: breaks are forced also without, and both stay forced with more
+-- values returned by calls.
+use Rattle.std.proofs.Common.{◌≡◌, ℕ, List, [], ◌∷◌, ◌++◌, refl, ap, ◌∙◌}
+use Rattle.std.specs.Prelude.{Bool, true, false, ◌&&◌, Option, Some, None, slice_get, take, filter, flat_map}
+use Rattle.std.specs.List.{list_all}
+use Rattle.ak_core.specs.Layout.{Layout}
+use Rattle.ak_core.specs.Mem.{Touch}
+use Rattle.ak_core.specs.declared.event.Event.{Event}
+use Rattle.ak_core.specs.declared.event.Event.TheVariants.{Call, Miss, Trap, Break}
+use Rattle.ak_core.specs.declared.event.Stop.{Stop}
+use Rattle.ak_model.specs.Flat.{flat_run}
+use Rattle.ak_model.specs.Ends.{Runs}
+use Rattle.ak_model.specs.ProgramTurns.{ProgramTurn}
+use Rattle.ak_model.specs.Reached.{touches_at, ComesTo}
+use Rattle.ak_model.specs.MayFault.{may_succeed}
+use Rattle.ak_model.specs.Forced.{EachTurn, IfCarriedOut, BrokenBy}
+use Rattle.ak_model.specs.Kept.{completes_by, is_same_stay, completed_since, granted_since, granted_before, is_kept, MayFaultUnkept}
+use Rattle.ak_model.specs.Misses.{MissedBy}
+use Rattle.ak_model.specs.Stopped.{BrokenUnkeptBy}
+use Rattle.ak_model.proofs.Longer.{faults-comes, touches-longer}
+use Rattle.ak_model.proofs.TurnFacts.{each-from}
+
+-- ---- Without what is kept
+
+module _ (layout : Layout) (runs : Runs) (stop : Option Stop) where
+  broken_without : (turn : ProgramTurn) (older : List ProgramTurn) (event : Option Event) → BrokenUnkeptBy layout runs stop turn older event → BrokenBy layout runs turn older event
+  broken_without turn older None h = tt
+  broken_without turn older (Some (Call i b a)) h = tt
+  broken_without turn older (Some (Miss i c)) h = tt
+  broken_without turn older (Some (Trap i v)) h = tt
+  broken_without turn older (Some (Break i)) h =
+      record { access = h.access; faults = h.faults.may_fault; inside = h.inside }
+
+  -- each break that is forced where translations are kept is forced
+  pub each-broken-without : (turns : List ProgramTurn) → EachTurn (λ turn. λ older. BrokenUnkeptBy layout runs stop turn older turn.event) turns → EachTurn (λ turn. λ older. BrokenBy layout runs turn older turn.event) turns
+  each-broken-without turns h =
+      each-from (λ turn. λ older. BrokenUnkeptBy layout runs stop turn older turn.event) (λ turn. λ older. BrokenBy layout runs turn older turn.event)
+      (λ turn older here. broken_without turn older turn.event here) turns h
+
+-- ---- With more values returned by calls
+
+-- what completes an instruction is carried out
+carried : (event : Option Event) (fact : Type 0) → completes_by event ≡ true → IfCarriedOut event fact → fact
+carried None fact e h = h
+carried (Some (Call i b a)) fact e h = h
+carried (Some (Miss i c)) fact e h = cc
+carried (Some (Trap i v)) fact e h = cc
+carried (Some (Break i)) fact e h = cc
+
+first_holds : (a b : Bool) → (a && b) ≡ true → a ≡ true
+first_holds true b e = refl
+first_holds false b e = cc
+
+-- lists of one turn after another, by two functions that agree on those that are taken
+module _ (f g : ProgramTurn → List Touch) (p : ProgramTurn → Bool) where
+  one_alike : (turn : ProgramTurn) (older : List ProgramTurn) (b : Bool) → p turn ≡ b → (p turn ≡ true → f turn ≡ g turn) → flat_map f (filter p older) ≡ flat_map g (filter p older) → flat_map f (filter p (turn ∷ older)) ≡ flat_map g (filter p (turn ∷ older))
+  one_alike turn older true e same h =
+      rw e (ap (λ touches. touches ++ flat_map f (filter p older)) (same e) ∙ ap (λ touches. g turn ++ touches) h)
+  one_alike turn older false e same h = rw e h
+
+  all_alike : (turns : List ProgramTurn) → EachTurn (λ turn. λ older. p turn ≡ true → f turn ≡ g turn) turns → flat_map f (filter p turns) ≡ flat_map g (filter p turns)
+  all_alike [] h = refl
+  all_alike (turn ∷ older) h = one_alike turn older (p turn) refl h.0 (all_alike older h.1)
+
+module _ (layout : Layout) (image returned more : List ℕ) where
+  abbrev before : Runs
+  before = flat_run layout image returned
+
+  abbrev longer : Runs
+  longer = flat_run layout image (returned ++ more)
+
+  -- the flat run comes to the instruction of each of these turns that completes or traps
+  abbrev CarriedOutEach : List ProgramTurn → Type 0
+  CarriedOutEach turns = EachTurn (λ turn. λ older. IfCarriedOut turn.event (ComesTo before turn)) turns
+
+  granted_longer : (turn : ProgramTurn) (older : List ProgramTurn) → CarriedOutEach older → granted_since layout longer turn older ≡ granted_since layout before turn older
+  granted_longer turn older came =
+      all_alike (touches_at layout longer) (touches_at layout before) (completed_since turn) older
+      (each-from (λ earlier. λ older. IfCarriedOut earlier.event (ComesTo before earlier)) (λ earlier. λ older. completed_since turn earlier ≡ true → touches_at layout longer earlier ≡ touches_at layout before earlier)
+      (λ earlier older here e. touches-longer layout image returned more earlier
+      (carried earlier.event (ComesTo before earlier) (first_holds (completes_by earlier.event) (is_same_stay turn earlier) e) here))
+      older came)
+
+  unkept_longer : (turn : ProgramTurn) (older : List ProgramTurn) (t : Touch) → CarriedOutEach older → MayFaultUnkept layout before turn older t → MayFaultUnkept layout longer turn older t
+  unkept_longer turn older t came h =
+      let may = h.may_fault in
+      let touches : touches_at layout longer turn ≡ touches_at layout before turn = touches-longer layout image returned more turn (faults-comes layout image returned more turn t may) in
+      let granted : granted_before layout longer turn older may.place ≡ granted_before layout before turn older may.place =
+      ap (λ since. since ++ take may.place (touches_at layout longer turn)) (granted_longer turn older came)
+      ∙ ap (λ all. granted_since layout before turn older ++ take may.place all) touches in
+      record {
+        may_fault = record {
+          place = may.place;
+          stands = ap (λ all. slice_get all may.place) touches ∙ may.stands;
+          permitted = may.permitted;
+          unmapped = may.unmapped;
+          earlier = ap (λ all. list_all (may_succeed layout turn) (take may.place all)) touches ∙ may.earlier;
+        };
+        unkept = ap (λ all. is_kept all t) granted ∙ h.unkept;
+      }
+
+  missed_longer : (turn : ProgramTurn) (older : List ProgramTurn) (event : Option Event) → CarriedOutEach older → MissedBy layout before turn older event → MissedBy layout longer turn older event
+  missed_longer turn older None came h = tt
+  missed_longer turn older (Some (Call i b a)) came h = tt
+  missed_longer turn older (Some (Trap i v)) came h = tt
+  missed_longer turn older (Some (Break i)) came h = tt
+  missed_longer turn older (Some (Miss i c)) came h =
+      record { access = h.access; faults = unkept_longer turn older h.access came h.faults; cluster = h.cluster; out = h.out }
+
+  broken_longer : (stop : Option Stop) (turn : ProgramTurn) (older : List ProgramTurn) (event : Option Event) → CarriedOutEach older → BrokenUnkeptBy layout before stop turn older event → BrokenUnkeptBy layout longer stop turn older event
+  broken_longer stop turn older None came h = tt
+  broken_longer stop turn older (Some (Call i b a)) came h = tt
+  broken_longer stop turn older (Some (Trap i v)) came h = tt
+  broken_longer stop turn older (Some (Miss i c)) came h = tt
+  broken_longer stop turn older (Some (Break i)) came h =
+      record { access = h.access; faults = unkept_longer turn older h.access came h.faults; inside = h.inside; named = h.named }
+
+  -- each of these turns that misses
+  pub each-missed-longer : (turns : List ProgramTurn) → CarriedOutEach turns → EachTurn (λ turn. λ older. MissedBy layout before turn older turn.event) turns → EachTurn (λ turn. λ older. MissedBy layout longer turn older turn.event) turns
+  each-missed-longer [] came h = tt
+  each-missed-longer (turn ∷ older) came h =
+      (missed_longer turn older turn.event came.1 h.0, each-missed-longer older came.1 h.1)
+
+  -- each of these turns that breaks
+  pub each-broken-unkept-longer : (stop : Option Stop) (turns : List ProgramTurn) → CarriedOutEach turns → EachTurn (λ turn. λ older. BrokenUnkeptBy layout before stop turn older turn.event) turns → EachTurn (λ turn. λ older. BrokenUnkeptBy layout longer stop turn older turn.event) turns
+  each-broken-unkept-longer stop [] came h = tt
+  each-broken-unkept-longer stop (turn ∷ older) came h =
+      (broken_longer stop turn older turn.event came.1 h.0, each-broken-unkept-longer stop older came.1 h.1)

@@ -1,0 +1,81 @@
+-- Two parts of the soundness of a journal, on how an enclave ends for ever: breaks are forced where translations are kept, and
+-- name the page of the stop; and the stop is that of the control state, with the move to blame. (The Autarky paper,
+-- self-paging runtime: a fault on a page that should be there ends the enclave.)
+use Rattle.std.specs.Prelude.{◌≡◌, ℕ, Bool, true, false, List, [], ◌∷◌, reverse, Option, Some, None, is_some}
+use Rattle.ak_core.specs.Layout.{Layout}
+use Rattle.ak_core.specs.Journal.{Journal}
+use Rattle.ak_core.specs.Mem.{Touch}
+use Rattle.ak_core.specs.declared.page.Page.{Page}
+use Rattle.ak_core.specs.declared.page.Kind.{Kind}
+use Rattle.ak_core.specs.declared.event.Event.{Event}
+use Rattle.ak_core.specs.declared.event.Event.TheVariants.{Break}
+use Rattle.ak_core.specs.declared.event.Stop.{Stop}
+use Rattle.ak_core.specs.declared.event.StopCause.{StopCause}
+use Rattle.ak_core.specs.declared.event.StopCause.TheVariants.{Unmapped}
+use Rattle.ak_core.specs.declared.moves.Move.{Move}
+use Rattle.ak_model.specs.Pages.{cluster_at}
+use Rattle.ak_model.specs.History.{History}
+use Rattle.ak_model.specs.Queue.{is_in}
+use Rattle.ak_model.specs.Control.{Cause, Broken, Named}
+use Rattle.ak_model.specs.Trace.{trace}
+use Rattle.ak_model.specs.Ends.{Runs, ended_at, runs_of}
+use Rattle.ak_model.specs.ProgramTurns.{ProgramTurn}
+use Rattle.ak_model.specs.Forced.{EachTurn, queue_by, turns_of}
+use Rattle.ak_model.specs.Kept.{MayFaultUnkept}
+use Rattle.ak_model.specs.Blame.{blame}
+
+-- ---- Breaks
+
+-- a cause that says that the program's page was unmapped names this access
+abbrev pub NamedBy : StopCause → Touch → Type 0
+NamedBy (Unmapped p kind) t = (t.page ≡ p) × (t.kind ≡ kind)
+NamedBy _ t = Unit {0}
+
+-- so does a stop with such a cause
+abbrev pub NamesAccess : Option Stop → Touch → Type 0
+NamesAccess None t = Unit {0}
+NamesAccess (Some stop) t = NamedBy stop.cause t
+
+-- a break is forced: an access may fault and its translation is not kept, though its cluster is in by the misses before; a
+-- stop for an unmapped page of the program names this access
+pub record BreakIsForcedUnkept (layout : Layout) (runs : Runs) (stop : Option Stop) (turn : ProgramTurn) (older : List ProgramTurn) : Type 0 where
+  pub access : Touch
+  pub faults : MayFaultUnkept layout runs turn older access
+  pub inside : is_in (queue_by layout older) (cluster_at layout access.page.0) ≡ true
+  pub named : NamesAccess stop access
+
+-- a turn with this event: where it breaks, that is forced
+abbrev pub BrokenUnkeptBy : Layout → Runs → Option Stop → ProgramTurn → List ProgramTurn → Option Event → Type 0
+BrokenUnkeptBy layout runs stop turn older (Some (Break i)) = BreakIsForcedUnkept layout runs stop turn older
+BrokenUnkeptBy layout runs stop turn older _ = Unit {0}
+
+-- each turn of the journal that breaks is forced to
+pub record BreaksAreForcedUnkept (image : List ℕ) (layout : Layout) (journal : Journal) : Type 0 where
+  pub turns_break : EachTurn (λ turn. λ older. BrokenUnkeptBy layout (runs_of layout image journal) journal.stop turn older turn.event) (turns_of layout journal)
+
+-- ---- The stop
+
+-- the earlier history, where the enclave had stopped before
+abbrev pub past_unless : Bool → History → History → History
+past_unless true earlier here = earlier
+past_unless false earlier here = here
+
+-- the history before the move in which the enclave stopped, of these moves, the newest first
+abbrev pub before_stop : Layout → List Event → List Move → History
+before_stop layout tape [] = []
+before_stop layout tape (m ∷ moves) =
+    past_unless (is_some (trace layout tape moves).control.cause) (before_stop layout tape moves) (trace layout tape moves).past
+
+-- the stop for a cause, with the move to blame
+abbrev pub stop_for : Layout → History → StopCause → Stop
+stop_for layout past cause = record { cause = cause; blame = blame layout past cause }
+
+-- the stop that a cause in the control state comes to. That the program broke says no page: the stop says which
+abbrev pub IsStop : Layout → History → Option Cause → Option Stop → Type 0
+IsStop layout past None stop = stop ≡ None
+IsStop layout past (Some (Named cause)) stop = stop ≡ Some (stop_for layout past cause)
+IsStop layout past (Some Broken) stop = (p : Page) × (kind : Kind) × (stop ≡ Some (stop_for layout past (Unmapped p kind)))
+
+-- the journal's stop is that of its last moment, blamed by the history before the move in which the enclave stopped
+pub record IsStopped (layout : Layout) (journal : Journal) : Type 0 where
+  pub stopped : IsStop layout (before_stop layout journal.events (reverse journal.moves)) (ended_at layout journal).control.cause journal.stop
