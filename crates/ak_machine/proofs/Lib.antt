@@ -1,0 +1,11 @@
+pub mod Frames
+pub mod FlatRuns
+pub mod Going
+pub mod Walked
+pub mod OneTouch
+pub mod ProgramTurns
+pub mod RuntimeTurns
+pub mod SoundTurns
+pub mod Runs
+pub mod Moves
+pub mod Builds

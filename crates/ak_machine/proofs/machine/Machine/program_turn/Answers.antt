@@ -1,0 +1,62 @@
+use Rattle.std.proofs.Common.{◌≡◌, ◌∙◌, ℕ, ◌+◌, ◌-◌, ap, subst, sym, arith}
+use Rattle.std.specs.Prelude.{Some, None}
+use Rattle.ak_core.specs.declared.event.Event.{Event}
+use Rattle.ak_core.specs.declared.moves.Exit.{Exit}
+use Rattle.ak_machine.specs.declared.activity.Stage.{Stage}
+use Rattle.ak_machine.specs.declared.activity.Activity.{Activity}
+use Rattle.ak_machine.specs.Memory.{tables_of, bytes_of}
+use Rattle.ak_machine.specs.State.{State, state_of}
+use Rattle.ak_machine.specs.Moves.{DoesTurn}
+use Rattle.ak_machine.proofs.OneTouch.{vector_other}
+use Rattle.ak_machine.proofs.ProgramTurns.{done, called, raised, broken}
+use Rattle.ak_machine.proofs.machine.Machine.program_turn.Goals as goal
+
+pub returns-in-Done-clause-turn : goal.returns-in-Done-clause-turn
+returns-in-Done-clause-turn c = λ image past returned shown events st.
+    let m = c.args.self.now in
+    let n = c.exec.new.mem in
+    done m.layout image past (state_of m) returned shown events c.exec.new.regs (tables_of n.table n.epcm) (bytes_of n.frames.items n.epcm) n.touched.items
+    c.requires.running c.in-Done.ensures.tables c.in-Done.ensures.line n.found st
+
+pub returns-in-Called-clause-turn : goal.returns-in-Called-clause-turn
+returns-in-Called-clause-turn c = λ image past returned shown events st.
+    let m = c.args.self.now in
+    let n = c.exec.new.mem in
+    let new : State = record {
+      activity = Activity.Leaving c.in-Called.number c.in-Called.argument;
+      regs = c.exec.new.regs;
+      count = m.count + 1;
+      tables = tables_of n.table n.epcm;
+      bytes = bytes_of n.frames.items n.epcm;
+    } in
+    let P : ℕ → Type 0 = λ k. DoesTurn m.layout image past (state_of m) new None (Some (Event.Call k c.in-Called.number c.in-Called.argument)) returned shown events in
+    let e : m.count ≡ m.count + 1 - 1 = omega arith in
+    subst P e
+    (called m.layout image past (state_of m) returned shown events c.in-Called.number c.in-Called.argument c.exec.new.regs (tables_of n.table n.epcm) (bytes_of n.frames.items n.epcm)
+    n.touched.items c.requires.running c.in-Called.ensures.tables c.in-Called.ensures.line n.found st)
+
+pub returns-in-Trapped-clause-turn : goal.returns-in-Trapped-clause-turn
+returns-in-Trapped-clause-turn c = λ image past returned shown events st.
+    let m = c.args.self.now in
+    let n = c.exec.new.mem in
+    raised m.layout image past (state_of m) returned shown events c.in-Trapped.vector c.exec.new.regs (tables_of n.table n.epcm) (bytes_of n.frames.items n.epcm) n.touched.items
+    c.requires.running c.in-Trapped.ensures.same_registers c.in-Trapped.ensures.tables c.in-Trapped.ensures.same_bytes (vector_other c.in-Trapped.vector c.in-Trapped.ensures.vector)
+    c.in-Trapped.ensures.line n.found st
+
+pub returns-in-Faulted-clause-turn : goal.returns-in-Faulted-clause-turn
+returns-in-Faulted-clause-turn c = λ image past returned shown events st.
+    let m = c.args.self.now in
+    let n = c.exec.new.mem in
+    let new : State = record {
+      activity = Activity.Outside (Stage.Broken c.in-Faulted.access);
+      regs = c.exec.new.regs;
+      count = m.count;
+      tables = tables_of n.table n.epcm;
+      bytes = bytes_of n.frames.items n.epcm;
+    } in
+    let P : Exit → Type 0 = λ exit. DoesTurn m.layout image past (state_of m) new (Some exit) (Some (Event.Break m.count)) returned shown events in
+    let exit : Exit.Pf m.layout.base 4 ≡ c.mask.result = sym (c.mask.ensures ∙ ap (λ base. Exit.Pf base 4) c.base.ensures.base) in
+    subst P exit
+    (broken m.layout image past (state_of m) returned shown events c.in-Faulted.access c.exec.new.regs (tables_of n.table n.epcm) (bytes_of n.frames.items n.epcm) n.touched.items
+    m.served c.requires.running c.in-Faulted.ensures.same_registers c.in-Faulted.ensures.tables c.in-Faulted.ensures.same_bytes
+    c.in-Faulted.ensures.line n.found (n.lost c.in-Faulted.access c.in-Faulted.ensures.refused) st)

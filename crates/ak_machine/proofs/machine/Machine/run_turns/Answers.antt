@@ -1,0 +1,57 @@
+use Rattle.std.proofs.Common.{◌≡◌, ◌∙◌, ◌+◌, ap, sym, arith, subst}
+use Rattle.std.specs.Prelude.{is_some, not}
+use Rattle.ak_core.specs.Layout.{Layout}
+use Rattle.ak_core.specs.Journal.{with_more}
+use Rattle.ak_machine.specs.declared.applied.ProgramNote.{ProgramNote}
+use Rattle.ak_machine.specs.State.{state_of}
+use Rattle.ak_machine.specs.Stands.{Stands}
+use Rattle.ak_machine.specs.Moves.{DoesTurn, DoesRun, RunsSoFar, event_in}
+use Rattle.ak_machine.proofs.Runs.{leaves_any, goes_on_any, note_later, still}
+use Rattle.ak_machine.proofs.machine.Machine.run_turns.Goals as goal
+
+pub returns-in-Some-clause-run : goal.returns-in-Some-clause-run
+returns-in-Some-clause-run c = λ image past returned shown events st.
+    let first = c.args.self.now in
+    let mid = c.loop-turn.self in
+    let new = c.turn-turned.new.self in
+    let s = c.loop-turn.invariant.run image past returned shown events st in
+    let now = with_more events (event_in c.loop-turn.program mid.count) in
+    let P : Layout → Type 0 = λ l. Stands l image past (state_of mid) s.values shown now →
+    DoesTurn l image past (state_of mid) (state_of new) c.turn-turned.result.exit (event_in c.turn-turned.result.program new.count) s.values shown now in
+    let N : ProgramNote → Type 0 = λ note. DoesRun first.layout image past (state_of first) (state_of new) c.in-Some.exit (event_in note new.count) c.args.turns returned shown events in
+    subst N (sym c.later_note-program.ensures)
+    (leaves_any first.layout image past (state_of first) (state_of mid) (state_of new) c.turn-turned.result c.in-Some.exit c.loop-turn.program c.loop-turn._turn c.args.turns returned shown events s
+    (subst P c.loop-turn.invariant.layout (c.turn-turned.ensures.turn image past s.values shown now) s.stands)
+    (λ shown_note. c.turn-turned.ensures.leaves (c.loop-turn.invariant.leaving shown_note)) c.in-Some.is (omega arith))
+
+pub loop-turn-preserved : goal.loop-turn-preserved
+loop-turn-preserved c = record {
+  run = λ image past returned shown events st.
+      let first = c.args.self.now in
+      let mid = c.loop-turn.self in
+      let new = c.turn-turned.new.self in
+      let s = c.loop-turn.invariant.run image past returned shown events st in
+      let now = with_more events (event_in c.loop-turn.program mid.count) in
+      let P : Layout → Type 0 = λ l. Stands l image past (state_of mid) s.values shown now →
+      DoesTurn l image past (state_of mid) (state_of new) c.turn-turned.result.exit (event_in c.turn-turned.result.program new.count) s.values shown now in
+      let N : ProgramNote → Type 0 = λ note. RunsSoFar first.layout image past (state_of first) (state_of new) (event_in note new.count) (c.loop-turn._turn + 1) returned shown events in
+      subst N (sym c.later_note-program.ensures)
+      (goes_on_any first.layout image past (state_of first) (state_of mid) (state_of new) c.turn-turned.result c.loop-turn.program c.loop-turn._turn returned shown events s
+      (subst P c.loop-turn.invariant.layout (c.turn-turned.ensures.turn image past s.values shown now) s.stands)
+      (λ shown_note. c.turn-turned.ensures.leaves (c.loop-turn.invariant.leaving shown_note)) c.in_default.is);
+  leaving = note_later c.turn-turned.result c.loop-turn.program c.later_note-program.result c.loop-turn.self.count c.turn-turned.new.self.count _
+      c.later_note-program.ensures (λ shown_note. c.turn-turned.ensures.leaves (c.loop-turn.invariant.leaving shown_note)) c.in_default.is
+      (λ shown_note. c.turn-turned.ensures.calls shown_note c.in_default.is);
+  grows = omega arith;
+  count = omega arith;
+  layout = c.turn-turned.ensures.layout ∙ c.loop-turn.invariant.layout;
+  inside = c.turn-turned.ensures.left ∙ ap (λ exit. not (is_some exit)) c.in_default.is;
+  noted = c.loop-turn.invariant.noted ∙ sym c.turn-turned.ensures.runtime ∙ c.turn-turned.ensures.gone c.in_default.is ∙ sym (c.turn-turned.ensures.steps c.in_default.is);
+  quiet = λ some. c.turn-turned.ensures.steps c.in_default.is;
+}
+
+pub returns-clause-run : goal.returns-clause-run
+returns-clause-run c = λ image past returned shown events st.
+    let e : c.loop-turn._turn ≡ c.args.turns = omega arith in
+    still c.args.self.now.layout image past (state_of c.args.self.now) (state_of c.loop-turn.self) (event_in c.loop-turn.program c.loop-turn.self.count) c.args.turns returned shown events
+    (rw e at (c.loop-turn.invariant.run image past returned shown events st))

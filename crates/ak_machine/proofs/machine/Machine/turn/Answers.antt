@@ -1,0 +1,19 @@
+use Rattle.std.proofs.Common.{sym, subst}
+use Rattle.ak_machine.specs.declared.applied.ProgramNote.{ProgramNote}
+use Rattle.ak_machine.specs.State.{state_of}
+use Rattle.ak_machine.specs.Moves.{DoesTurn, event_in}
+use Rattle.ak_machine.proofs.machine.Machine.turn.Goals as goal
+
+pub returns-in-Entering-clause-turn : goal.returns-in-Entering-clause-turn
+returns-in-Entering-clause-turn c = λ image past returned shown events st.
+    let m = c.args.self.now in
+    let n = c.entry_turn.new.self in
+    let P : ProgramNote → Type 0 = λ note. DoesTurn m.layout image past (state_of m) (state_of n) c.entry_turn.result.exit (event_in note n.count) returned shown events in
+    subst P (sym c.entry_turn.ensures.quiet) (c.entry_turn.ensures.turn image past returned shown events st)
+
+pub returns-in-Leaving-clause-turn : goal.returns-in-Leaving-clause-turn
+returns-in-Leaving-clause-turn c = λ image past returned shown events st.
+    let m = c.args.self.now in
+    let n = c.leave_turn.new.self in
+    let P : ProgramNote → Type 0 = λ note. DoesTurn m.layout image past (state_of m) (state_of n) c.leave_turn.result.exit (event_in note n.count) returned shown events in
+    subst P (sym c.leave_turn.ensures.quiet) (c.leave_turn.ensures.turn image past returned shown events st)

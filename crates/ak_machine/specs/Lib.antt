@@ -1,0 +1,11 @@
+pub mod Memory
+pub mod Served
+pub mod FirstImage
+pub mod State
+pub mod Controls
+pub mod Places
+pub mod Stands
+pub mod SoundTurns
+pub mod Moves
+pub mod Turning
+pub mod Built

@@ -1,0 +1,113 @@
+// The kernel's moves.
+ghost use Rattle.std.specs.Prelude.{◌≡◌, ◌+◌, ◌<◌, ◌≤◌, ◌^◌, None, IsTrue};
+ghost use Rattle.ak_machine.specs.Served.{is_served};
+ghost use Rattle.ak_machine.specs.State.{state_of, layout_of};
+ghost use Rattle.ak_machine.specs.Moves.{IsMove, event_in, note_of_move};
+
+use crate::activity::Activity;
+use crate::applied::{Applied, ProgramNote, RuntimeNote};
+use crate::machine::Machine;
+use ak_core::{Answer, Lp, Move, Page};
+use ak_pte::Pte;
+
+/// What a move came to that the program had no part in.
+fn plainly(answer: Answer) -> Applied
+    ensures { result ≡ record { answer = answer; completed = 0; program = ProgramNote.Plain; runtime = RuntimeNote.Quiet } }
+{
+    Applied {
+        answer,
+        completed: 0,
+        program: ProgramNote::Plain,
+        runtime: RuntimeNote::Quiet,
+    }
+}
+
+impl Machine {
+    /// The kernel sets a page's entry of the page table.
+    fn set_entry(&mut self, p: Page, e: Pte) -> Answer
+        ensures layout { layout_of self.new ≡ layout_of self.old }
+        ensures moved { IsMove (layout_of self.old) (state_of self.old) (state_of self.new) (Move.SetPte p e.frame e.flags)
+            result None }
+        ensures count { (state_of self.new).count ≡ (state_of self.old).count }
+    {
+        if p.0 as usize >= self.layout.perms().len() {
+            return Answer::NoPage;
+        }
+        self.memory.set_entry(p, e);
+        Answer::Ok
+    }
+
+    /// The kernel reads a page's entry of the page table.
+    fn read_entry(&self, p: Page) -> Answer
+        ensures { IsMove (layout_of self.now) (state_of self.now) (state_of self.now) (Move.ReadPte p) result None }
+    {
+        if p.0 as usize >= self.layout.perms().len() {
+            return Answer::NoPage;
+        }
+        let e = self.memory.table.get(p);
+        Answer::Pte(e.frame, e.flags)
+    }
+
+    /// The kernel enters on processor 0, with a value.
+    fn enter(&mut self, lp: Lp, value: u64) -> Answer
+        requires { lp.0 ≡ 0 }
+        ensures layout { layout_of self.new ≡ layout_of self.old }
+        ensures moved { IsMove (layout_of self.old) (state_of self.old) (state_of self.new) (Move.Eenter lp value) result
+            None }
+        ensures count { (state_of self.new).count ≡ (state_of self.old).count }
+    {
+        let Activity::Outside(stage) = self.activity else {
+            return Answer::Inside;
+        };
+        self.activity = Activity::Entering(stage, value);
+        Answer::Ok
+    }
+
+    /// The kernel runs processor 0 for up to so many turns.
+    fn run(&mut self, lp: Lp, turns: u32) -> Applied
+        requires lp { lp.0 ≡ 0 }
+        requires some { 1 ≤ turns }
+        requires room { (state_of self.old).count + turns < 2 ^ 64 }
+        ensures layout { layout_of self.new ≡ layout_of self.old }
+        ensures moved { IsMove (layout_of self.old) (state_of self.old) (state_of self.new) (Move.Run lp turns) result.answer
+            (event_in result.program (state_of self.new).count) }
+        ensures runtime { result.runtime ≡ note_of_move (Move.Run lp turns) (state_of self.old).activity }
+        ensures completed { (state_of self.new).count ≡ (state_of self.old).count + result.completed }
+        ensures few { result.completed ≤ turns }
+    {
+        if let Activity::Outside(_) = self.activity {
+            return plainly(Answer::Outside);
+        }
+        let before = self.count;
+        let ran = self.run_turns(turns);
+        Applied {
+            answer: Answer::Exit(ran.exit),
+            completed: self.count - before,
+            program: ran.program,
+            runtime: ran.runtime,
+        }
+    }
+
+    /// Applies a move of the kernel. It takes no memory.
+    pub fn apply(&mut self, m: &Move) -> Applied
+        requires served { IsTrue (is_served m.now) }
+        requires room { (state_of self.old).count + 1000000 < 2 ^ 64 }
+        ensures layout { layout_of self.new ≡ layout_of self.old }
+
+        // The answer is that of the definitions, and the relation is kept.
+        ensures moved { IsMove (layout_of self.old) (state_of self.old) (state_of self.new) m.now result.answer
+            (event_in result.program (state_of self.new).count) }
+        ensures runtime { result.runtime ≡ note_of_move m.now (state_of self.old).activity }
+        ensures completed { (state_of self.new).count ≡ (state_of self.old).count + result.completed }
+        ensures few { result.completed ≤ 1000000 }
+    {
+        match *m {
+            Move::SetPte(p, frame, flags) => plainly(self.set_entry(p, Pte { frame, flags })),
+            Move::ReadPte(p) => plainly(self.read_entry(p)),
+            Move::Eenter(lp, value) => plainly(self.enter(lp, value)),
+            Move::Run(lp, turns) => self.run(lp, turns),
+            // No other move is served yet.
+            _ => unreachable!(),
+        }
+    }
+}
