@@ -11,7 +11,7 @@ use Rattle.ak_top.specs.Words.{Names}
 use Rattle.ak_top.specs.Trouble.{trouble_of_read}
 use Rattle.ak_top.specs.Seen.{FilesSeen, SinkSeen}
 use Rattle.ak_top.specs.Script.{script_of, Read}
-use Rattle.ak_top.specs.FirstImage.{page_of}
+use Rattle.ak_machine.specs.FirstImage.{page_of}
 use Rattle.ak_top.specs.Steps.{IsJournalOn, Writes}
 use Rattle.ak_top.specs.Top.{ReadsFile, AcceptsImage, IsJournalOf, Ends, AsksTo, AsksBy}
 use Rattle.ak_top.specs.declared.trouble.Place.TheVariants.{Image, Script}
@@ -32,7 +32,9 @@ of_files files names image script moves journal accepted read says on =
       outputs = on.outputs;
       events = on.events;
       answers = on.answers;
-      quiet = on.quiet;
+      reached = on.reached;
+      breaks = on.breaks;
+      unmissed = on.unmissed;
       stop = on.stop;
     }
 

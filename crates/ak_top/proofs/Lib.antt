@@ -1,11 +1,5 @@
-pub mod FlatRuns
-pub mod Going
-pub mod OnePages
-pub mod OneTouch
-pub mod ProgramTurns
-pub mod RuntimeTurns
-pub mod Runs
-pub mod Moves
+pub mod Returned
+pub mod SoundTurns
 pub mod Sessions
 pub mod Digits
 pub mod ScriptLines

@@ -1,27 +1,38 @@
 -- A move more in a journal.
-use Rattle.std.proofs.Common.{◌≡◌, ℕ, ◌<◌, List, [], ◌∷◌, ◌++◌, refl, ap, ◌∙◌, sym, subst, arith, Bool, true, false, append_assoc}
+use Rattle.std.proofs.Common.{◌≡◌, ℕ, ◌<◌, List, [], ◌∷◌, ◌++◌, refl, ap, ◌∙◌, sym, subst, Bool, true, false, append_assoc}
 use Rattle.std.proofs.lemmas.List.{append-nil, reverse-append}
 use Rattle.std.specs.Prelude.{Option, Some, None, option_and_then, map, reverse, ◌==◌, if◌then◌else◌}
 use Rattle.ak_core.specs.Layout.{Layout}
-use Rattle.ak_core.specs.Journal.{Journal, with_more, first_stop}
+use Rattle.ak_core.specs.Journal.{Journal, with_more, first_stop, SameLists}
 use Rattle.ak_core.specs.declared.event.Event.{Event}
 use Rattle.ak_core.specs.declared.moves.Move.{Move}
 use Rattle.ak_core.specs.declared.moves.Exit.{Exit}
 use Rattle.ak_core.specs.declared.moves.Answer.{Answer}
-use Rattle.ak_model.specs.Control.{Control, start}
+use Rattle.ak_model.specs.Control.{Control}
 use Rattle.ak_model.specs.Flat.{flat_run, outputs}
 use Rattle.ak_model.specs.Premises.{IsLater}
 use Rattle.ak_model.specs.Trace.{Moment, trace, step, answered}
-use Rattle.ak_model.specs.Ends.{ended_at}
+use Rattle.ak_model.specs.Ends.{Runs, ended_at, runs_of}
 use Rattle.ak_model.specs.Outputs.{shown_by, shown_outputs, IsPrefixOf, OutputsAreFlat}
 use Rattle.ak_model.specs.Answers.{answer}
 use Rattle.ak_model.specs.Entering.{control_after}
 use Rattle.ak_model.specs.Events.{completed_by, step_at, call_at, TrapsAreForced, EventsAreFlat}
 use Rattle.ak_model.specs.Answered.{AnswersAreTraced}
-use Rattle.ak_top.specs.declared.machine.Stage.{Stage}
-use Rattle.ak_top.specs.declared.machine.Activity.{Activity}
-use Rattle.ak_top.specs.Stands.{State, Stands, ActivityStands, DoesMove, IsBuilt, IsNew, control_of, first_then, unshown, output_of_answer, is_inside}
+use Rattle.ak_model.specs.ProgramTurns.{ProgramTurn, turns_of_move, program_turns}
+use Rattle.ak_model.specs.Forced.{EachTurn, turns_of, ReachedBy, TouchesAreReached, BrokenBy, BreaksAreForced}
+use Rattle.ak_model.proofs.TurnRuns.{turns-one_more}
+use Rattle.ak_model.proofs.TurnFacts.{alone-append}
+use Rattle.ak_machine.specs.State.{State}
+use Rattle.ak_machine.specs.Controls.{control_of}
+use Rattle.ak_machine.specs.Stands.{unshown}
+use Rattle.ak_machine.specs.SoundTurns.{IsSoundTurn, AreSound}
+use Rattle.ak_machine.specs.FirstImage.{one_page}
+use Rattle.ak_machine.specs.Built.{IsBuilt}
+use Rattle.ak_machine.specs.Moves.{DoesMove, first_then, output_of_answer}
 use Rattle.ak_top.specs.Faithful.{Faithful}
+use Rattle.ak_top.specs.Steps.{IsJournalOn}
+use Rattle.ak_top.proofs.Returned.{returned-grows}
+use Rattle.ak_top.proofs.SoundTurns.{are_sound-longer, are_reached, are_forced}
 
 -- ---- Lists
 
@@ -60,98 +71,97 @@ step_is : (layout : Layout) (moment : Moment) (m : Move) (a : Answer) (control :
     step layout moment m ≡ record { past = (m, a) ∷ moment.past; control = control }
 step_is layout moment m a control e f = ap (answered layout moment m) e ∙ ap (λ c. record { past = (m, a) ∷ moment.past; control = c }) f
 
-more_traced : (layout : Layout) (image : List ℕ) (old new : State) (j : Journal) (m : Move) (a : Answer) (event : Option Event) (f : Faithful layout image old j) →
-    (d : DoesMove layout image f.past old new m a event f.values j.outputs j.events) → (later : List Event) → IsLater later new.count →
-    trace layout (with_more j.events event ++ later) (reverse (j.moves ++ m ∷ [])) ≡ record { past = (m, a) ∷ f.past; control = control_of layout new d.values later }
-more_traced layout image old new j m a event f d later ok =
-    ap (trace layout (with_more j.events event ++ later)) (reverse_more j.moves m)
-    ∙ ap (λ es. step layout (trace layout es (reverse j.moves)) m) (events_more j.events event later)
-    ∙ ap (λ moment. step layout moment m) (f.traced (first_then event later) (d.due later ok))
-    ∙ step_is layout (record { past = f.past; control = control_of layout old f.values (first_then event later) }) m a _ (d.answered later ok) (d.traced later ok)
+module _ (layout : Layout) (image : List ℕ) (old new : State) (j : Journal) (m : Move) (a : Answer) (event : Option Event) (f : Faithful layout image old j) (d : DoesMove layout image f.past old new m a event f.values j.outputs j.events) where
+  -- where the moves before it led
+  abbrev moment_before : (later : List Event) → Moment
+  moment_before later = record { past = f.past; control = control_of layout old f.values (first_then event later) }
 
--- the journal with one more move
-pub one_more : (layout : Layout) (image : List ℕ) (old new : State) (j k : Journal) (m : Move) (a : Answer) (event : Option Event) (f : Faithful layout image old j) →
-    DoesMove layout image f.past old new m a event f.values j.outputs j.events →
-    k.moves ≡ j.moves ++ m ∷ [] → k.answers ≡ j.answers ++ a ∷ [] → k.outputs ≡ with_more j.outputs (output_of_answer a) → k.events ≡ with_more j.events event → k.stop ≡ first_stop j.stop None →
-    Faithful layout image new k
-one_more layout image old new j k m a event f d moves answers shown events stop =
-    record {
-      values = d.values;
-      past = (m, a) ∷ f.past;
-      stands = rw (shown, events) d.stands;
-      within = d.within;
-      shown = shown ∙ ap (λ xs. with_more xs (output_of_answer a)) f.shown ∙ sym (shown_outputs-append j.answers a) ∙ ap shown_outputs (sym answers);
-      answered = answers ∙ ap (λ xs. xs ++ a ∷ []) f.answered ∙ sym (reverse_first a (map (λ pair. pair.1) f.past));
-      traced = λ later ok. rw (moves, events) (more_traced layout image old new j m a event f d later ok);
-      unstopped = stop ∙ ap (λ s. first_stop s None) f.unstopped;
-    }
+  more_traced : (later : List Event) → IsLater later new.count →
+      trace layout (with_more j.events event ++ later) (reverse (j.moves ++ m ∷ []))
+      ≡ record { past = (m, a) ∷ f.past; control = control_of layout new d.values later }
+  more_traced later ok =
+      ap (trace layout (with_more j.events event ++ later)) (reverse_more j.moves m)
+      ∙ ap (λ es. step layout (trace layout es (reverse j.moves)) m) (events_more j.events event later)
+      ∙ ap (λ moment. step layout moment m) (f.traced (first_then event later) (d.due later ok))
+      ∙ step_is layout (moment_before later) m a _ (d.answered later ok) (d.traced later ok)
+
+  more_turns : (later : List Event) → IsLater later new.count →
+      program_turns layout (with_more j.events event ++ later) (reverse (j.moves ++ m ∷ [])) ≡ d.made ++ f.turns
+  more_turns later ok =
+      let tape = j.events ++ first_then event later in
+      ap (λ es. program_turns layout es (reverse (j.moves ++ m ∷ []))) (events_more j.events event later)
+      ∙ turns-one_more layout tape j.moves m
+      ∙ ap (λ moment. turns_of_move layout moment m ++ program_turns layout tape (reverse j.moves)) (f.traced (first_then event later) (d.due later ok))
+      ∙ ap (λ made. made ++ program_turns layout tape (reverse j.moves)) (d.made_are later ok)
+      ∙ ap (λ older. d.made ++ older) (f.turns_are (first_then event later) (d.due later ok))
+
+  more_values : IsPrefixOf f.values d.values
+  more_values =
+      subst (IsPrefixOf f.values) (ap (λ (control : Control). control.returned) (d.traced [] tt))
+      (returned-grows layout f.past (control_of layout old f.values (first_then event [])) m a)
+
+  more_sound : AreSound layout (flat_run layout image d.values) (d.made ++ f.turns)
+  more_sound =
+      alone-append (IsSoundTurn layout (flat_run layout image d.values)) d.made f.turns d.sound
+      (are_sound-longer layout image f.values d.values more_values f.turns f.sound)
+
+  -- the journal with one more move
+  pub one_more : (k : Journal) → k.moves ≡ j.moves ++ m ∷ [] → k.answers ≡ j.answers ++ a ∷ [] →
+      k.outputs ≡ with_more j.outputs (output_of_answer a) → k.events ≡ with_more j.events event → k.stop ≡ first_stop j.stop None →
+      Faithful layout image new k
+  one_more k moves answers shown events stop =
+      record {
+        values = d.values;
+        past = (m, a) ∷ f.past;
+        stands = rw (shown, events) d.stands;
+        shown = shown ∙ ap (λ xs. with_more xs (output_of_answer a)) f.shown ∙ sym (shown_outputs-append j.answers a) ∙ ap shown_outputs (sym answers);
+        answered = answers ∙ ap (λ xs. xs ++ a ∷ []) f.answered ∙ sym (reverse_first a (map (λ pair. pair.1) f.past));
+        traced = λ later ok. rw (moves, events) (more_traced later ok);
+        turns = d.made ++ f.turns;
+        turns_are = λ later ok. rw (moves, events) (more_turns later ok);
+        sound = more_sound;
+        unstopped = stop ∙ ap (λ s. first_stop s None) f.unstopped;
+      }
 
 -- room that was made changes nothing
-pub same_lists : (layout : Layout) (image : List ℕ) (state : State) (j k : Journal) → Faithful layout image state j →
-    k.moves ≡ j.moves → k.answers ≡ j.answers → k.outputs ≡ j.outputs → k.events ≡ j.events → k.stop ≡ j.stop → Faithful layout image state k
-same_lists layout image state j k f moves answers shown events stop =
+pub same_lists : (layout : Layout) (image : List ℕ) (state : State) (j k : Journal) → SameLists j k → Faithful layout image state j → Faithful layout image state k
+same_lists layout image state j k same f =
     record {
       values = f.values;
       past = f.past;
-      stands = rw (shown, events) f.stands;
-      within = f.within;
-      shown = shown ∙ f.shown ∙ ap shown_outputs (sym answers);
-      answered = answers ∙ f.answered;
-      traced = λ later ok. rw (moves, events) (f.traced later ok);
-      unstopped = stop ∙ f.unstopped;
+      stands = rw (same.outputs, same.events) f.stands;
+      shown = same.outputs ∙ f.shown ∙ ap shown_outputs (sym same.answers);
+      answered = same.answers ∙ f.answered;
+      traced = λ later ok. rw (same.moves, same.events) (f.traced later ok);
+      turns = f.turns;
+      turns_are = λ later ok. rw (same.moves, same.events) (f.turns_are later ok);
+      sound = f.sound;
+      unstopped = same.stop ∙ f.unstopped;
     }
 
 -- ---- The start
 
-built_stands : (layout : Layout) (image : List ℕ) (state : State) → IsBuilt image state → Stands layout image state [] [] []
-built_stands layout image state b =
-    let new : IsNew image state.flat state.count [] [] = record { bytes = b.bytes; count_is = b.count_is; none_returned = refl; no_events = refl } in
-    let P : Activity → Type 0 = λ a. ActivityStands a layout image state.flat state.count [] [] in
-    record {
-      place = subst P (sym b.activity_is) new;
-      made = ap (outputs layout image []) b.count_is ∙ ap (λ a. with_more [] (unshown a)) (sym b.activity_is);
-      tape = refl;
-      completed = λ i lt. absurd (omega (arith, b.count_is));
-      traps = tt;
-      quiet = refl;
-    }
-
-built_control : (layout : Layout) (image : List ℕ) (state : State) (later : List Event) → IsBuilt image state → start layout later ≡ control_of layout state [] later
-built_control layout image state later b =
-    ap (λ count. control_of layout (record { activity = Activity.Outside Stage.New; flat = state.flat; count = count }) [] later) (sym b.count_is)
-    ∙ ap (λ activity. control_of layout (record { activity = activity; flat = state.flat; count = state.count }) [] later) (sym b.activity_is)
-
-pub start_faithful : (layout : Layout) (image : List ℕ) (state : State) (j : Journal) → IsBuilt image state →
+pub start_faithful : (layout : Layout) (image : List ℕ) (state : State) (j : Journal) → IsBuilt layout image state →
     j.moves ≡ [] → j.answers ≡ [] → j.outputs ≡ [] → j.events ≡ [] → j.stop ≡ None → Faithful layout image state j
-start_faithful layout image state j b moves answers shown events stop =
+start_faithful layout image state j built moves answers shown events stop =
     record {
       values = [];
       past = [];
-      stands = rw (shown, events) (built_stands layout image state b);
-      within = ap is_inside (sym b.activity_is);
+      stands = rw (shown, events) built.stands;
       shown = shown ∙ ap shown_outputs (sym answers);
       answered = answers;
-      traced = λ later ok. rw (moves, events) (ap (λ c. record { past = []; control = c }) (built_control layout image state later b));
+      traced = λ later ok. rw (moves, events) (ap (λ c. record { past = []; control = c }) (built.starts later));
+      turns = [];
+      turns_are = λ later ok. rw moves refl;
+      sound = tt;
       unstopped = stop;
     }
 
 -- ---- The end
 
-ends : (layout : Layout) (image : List ℕ) (state : State) (j : Journal) → (f : Faithful layout image state j) →
-    ended_at layout j ≡ record { past = f.past; control = control_of layout state f.values [] }
-ends layout image state j f = ap (λ es. trace layout es (reverse j.moves)) (sym (append-nil j.events)) ∙ f.traced [] tt
-
 prefix_of : (xs : List ℕ) (o : Option ℕ) → IsPrefixOf xs (with_more xs o)
 prefix_of xs None = ([], append-nil xs)
 prefix_of xs (Some x) = (x ∷ [], refl)
-
-pub faithful_outputs : (layout : Layout) (image : List ℕ) (state : State) (j : Journal) → Faithful layout image state j → OutputsAreFlat image layout j
-faithful_outputs layout image state j f =
-    let P : Moment → Type 0 = λ moment. IsPrefixOf j.outputs (outputs layout image moment.control.returned moment.control.count) in
-    record {
-      shown = f.shown;
-      flat = subst P (sym (ends layout image state j f)) (subst (IsPrefixOf j.outputs) (sym f.stands.made) (prefix_of j.outputs (unshown state.activity)));
-    }
 
 record FlatAt (image : List ℕ) (layout : Layout) (journal : Journal) (moment : Moment) : Type 0 where
   pub completed : (i : ℕ) → i < moment.control.count →
@@ -159,15 +169,65 @@ record FlatAt (image : List ℕ) (layout : Layout) (journal : Journal) (moment :
       ≡ Some (call_at journal.events i)
   pub traps : TrapsAreForced layout (flat_run layout image moment.control.returned) journal.events
 
-pub faithful_events : (layout : Layout) (image : List ℕ) (state : State) (j : Journal) → Faithful layout image state j → EventsAreFlat image layout j
-faithful_events layout image state j f =
-    let flat = subst (FlatAt image layout j) (sym (ends layout image state j f)) (record { completed = f.stands.completed; traps = f.stands.traps }) in
-    record { tape = f.stands.tape; completed = flat.completed; traps = flat.traps }
+module _ (layout : Layout) (image : List ℕ) (state : State) (j : Journal) (f : Faithful layout image state j) where
+  ends : ended_at layout j ≡ record { past = f.past; control = control_of layout state f.values [] }
+  ends = ap (λ es. trace layout es (reverse j.moves)) (sym (append-nil j.events)) ∙ f.traced [] tt
 
-pub faithful_answers : (layout : Layout) (image : List ℕ) (state : State) (j : Journal) → Faithful layout image state j → AnswersAreTraced layout j
-faithful_answers layout image state j f =
-    let e = ends layout image state j f in
+  turns_end : turns_of layout j ≡ f.turns
+  turns_end = ap (λ es. program_turns layout es (reverse j.moves)) (sym (append-nil j.events)) ∙ f.turns_are [] tt
+
+  runs_end : runs_of layout image j ≡ flat_run layout image f.values
+  runs_end = ap (λ (moment : Moment). flat_run layout image moment.control.returned) ends
+
+  -- what holds of the turns so far holds of the journal's
+  of_journal : (P : Runs → ProgramTurn → List ProgramTurn → Type 0) → EachTurn (P (flat_run layout image f.values)) f.turns →
+      EachTurn (P (runs_of layout image j)) (turns_of layout j)
+  of_journal P h =
+      subst (λ runs. EachTurn (P runs) (turns_of layout j)) (sym runs_end)
+      (subst (EachTurn (P (flat_run layout image f.values))) (sym turns_end) h)
+
+  faithful_outputs : OutputsAreFlat image layout j
+  faithful_outputs =
+      let P : Moment → Type 0 = λ moment. IsPrefixOf j.outputs (outputs layout image moment.control.returned moment.control.count) in
+      record {
+        shown = f.shown;
+        flat = subst P (sym ends) (subst (IsPrefixOf j.outputs) (sym f.stands.outputs) (prefix_of j.outputs (unshown state.activity)));
+      }
+
+  faithful_events : EventsAreFlat image layout j
+  faithful_events =
+      let tape = f.stands.tape in
+      let flat = subst (FlatAt image layout j) (sym ends) (record { completed = tape.completed; traps = tape.traps }) in
+      record { tape = tape.ordered; completed = flat.completed; traps = flat.traps }
+
+  faithful_answers : AnswersAreTraced layout j
+  faithful_answers =
+      record {
+        answered = f.answered ∙ ap (λ moment. reverse (map (λ pair. pair.1) moment.past)) (sym ends);
+        taken = ap (λ moment. moment.control.rest) ends;
+      }
+
+  faithful_reached : TouchesAreReached image layout j
+  faithful_reached =
+      let P : Runs → ProgramTurn → List ProgramTurn → Type 0 = λ runs turn older. ReachedBy layout runs turn turn.event in
+      record { turns_reach = of_journal P (are_reached layout (flat_run layout image f.values) f.turns f.sound) }
+
+  faithful_breaks : BreaksAreForced image layout j
+  faithful_breaks =
+      let P : Runs → ProgramTurn → List ProgramTurn → Type 0 = λ runs turn older. BrokenBy layout runs turn older turn.event in
+      record { turns_break = of_journal P (are_forced layout (flat_run layout image f.values) f.turns f.sound) }
+
+-- the journal of these moves
+pub faithful_journal : (page : List ℕ) (state : State) (moves : List Move) (j : Journal) → Faithful one_page page state j → j.moves ≡ moves →
+    IsJournalOn page moves j
+faithful_journal page state moves j f moves_are =
     record {
-      answered = f.answered ∙ ap (λ moment. reverse (map (λ pair. pair.1) moment.past)) (sym e);
-      taken = ap (λ moment. moment.control.rest) e;
+      moves_are = moves_are;
+      outputs = faithful_outputs one_page page state j f;
+      events = faithful_events one_page page state j f;
+      answers = faithful_answers one_page page state j f;
+      reached = faithful_reached one_page page state j f;
+      breaks = faithful_breaks one_page page state j f;
+      unmissed = f.stands.tape.unmissed;
+      stop = f.unstopped;
     }

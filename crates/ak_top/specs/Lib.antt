@@ -1,9 +1,3 @@
-pub mod Served
-pub mod Quiet
-pub mod OnePageLayout
-pub mod OnePage
-pub mod FirstImage
-pub mod Stands
 pub mod Faithful
 pub mod Words
 pub mod NamesGiven

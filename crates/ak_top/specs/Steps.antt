@@ -6,12 +6,13 @@ use Rattle.ak_core.specs.declared.moves.Move.{Move}
 use Rattle.ak_model.specs.Outputs.{OutputsAreFlat}
 use Rattle.ak_model.specs.Events.{EventsAreFlat}
 use Rattle.ak_model.specs.Answered.{AnswersAreTraced}
+use Rattle.ak_model.specs.Forced.{TouchesAreReached, BreaksAreForced}
 use Rattle.ak_outside.specs.Causes.{Rose}
 use Rattle.ak_outside.specs.Taken.{with_more, TakesFront}
 use Rattle.ak_top.specs.Report.{report_of}
-use Rattle.ak_top.specs.FirstImage.{one_page}
+use Rattle.ak_machine.specs.FirstImage.{one_page}
 use Rattle.ak_top.specs.Seen.{SinkSeen}
-use Rattle.ak_top.specs.Quiet.{is_quiet}
+use Rattle.ak_machine.specs.Stands.{is_unmissed}
 use Rattle.ak_top.specs.declared.trouble.Trouble.{Trouble}
 use Rattle.ak_top.specs.declared.trouble.Trouble.TheVariants.{WriteFailed, OutOfMemory}
 
@@ -21,7 +22,9 @@ pub record IsJournalOn (page : List ℕ) (moves : List Move) (journal : Journal)
   pub outputs : OutputsAreFlat page one_page journal
   pub events : EventsAreFlat page one_page journal
   pub answers : AnswersAreTraced one_page journal
-  pub quiet : IsTrue (list_all is_quiet journal.events)
+  pub reached : TouchesAreReached page one_page journal
+  pub breaks : BreaksAreForced page one_page journal
+  pub unmissed : IsTrue (list_all is_unmissed journal.events)
   pub stop : journal.stop ≡ None
 
 -- the sink took the whole report at Ok, a front of it at a fault of the sink, and nothing where memory ran out

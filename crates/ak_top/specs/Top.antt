@@ -5,14 +5,15 @@ use Rattle.ak_core.specs.Journal.{Journal}
 use Rattle.ak_model.specs.Outputs.{OutputsAreFlat}
 use Rattle.ak_model.specs.Events.{EventsAreFlat}
 use Rattle.ak_model.specs.Answered.{AnswersAreTraced}
+use Rattle.ak_model.specs.Forced.{TouchesAreReached, BreaksAreForced}
 use Rattle.ak_outside.specs.Causes.{Rose}
 use Rattle.ak_outside.specs.Reads.{held_length}
 use Rattle.ak_outside.specs.Taken.{with_more, TakesFront}
-use Rattle.ak_top.specs.Quiet.{is_quiet}
+use Rattle.ak_machine.specs.Stands.{is_unmissed}
 use Rattle.ak_top.specs.Words.{Names}
 use Rattle.ak_top.specs.Script.{script_of, Read, Refused}
 use Rattle.ak_top.specs.Report.{report_of}
-use Rattle.ak_top.specs.FirstImage.{one_page, page_of}
+use Rattle.ak_machine.specs.FirstImage.{one_page, page_of}
 use Rattle.ak_top.specs.Seen.{FilesSeen, SinkSeen}
 use Rattle.ak_top.specs.declared.trouble.Place.{Place}
 use Rattle.ak_top.specs.declared.trouble.Place.TheVariants.{Image, Script}
@@ -43,7 +44,8 @@ pub record AcceptsImage (files : FilesSeen) (names : Names) (image : List ℕ) :
 -- ---- The report
 
 -- a sound journal of the files, as far as this stage goes: its moves are the script's; outputs, events and answers are those
--- of the image's program over memory never paged and of the trace; no access faulted, and there is no stop
+-- of the image's program over memory never paged and of the trace; where an instruction completed or trapped, its accesses
+-- were reached, and where the program broke, one of them was free to fault; no cluster is missed, and no stop is told
 pub record IsJournalOf (files : FilesSeen) (names : Names) (journal : Journal) : Type 0 where
   pub image : List ℕ
   pub accepted : AcceptsImage files names image
@@ -53,7 +55,9 @@ pub record IsJournalOf (files : FilesSeen) (names : Names) (journal : Journal) :
   pub outputs : OutputsAreFlat (page_of image) one_page journal
   pub events : EventsAreFlat (page_of image) one_page journal
   pub answers : AnswersAreTraced one_page journal
-  pub quiet : IsTrue (list_all is_quiet journal.events)
+  pub reached : TouchesAreReached (page_of image) one_page journal
+  pub breaks : BreaksAreForced (page_of image) one_page journal
+  pub unmissed : IsTrue (list_all is_unmissed journal.events)
   pub stop : journal.stop ≡ None
 
 -- the sink took exactly the report of such a journal

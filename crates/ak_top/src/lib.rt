@@ -2,9 +2,6 @@
 //! script's moves to the image's enclave, and writes the report of its journal.
 #![tactic(auto)]
 
-mod first_image;
-mod machine;
-mod one_page;
 mod report;
 mod script;
 mod session;

@@ -2,17 +2,15 @@
 ghost use Rattle.std.specs.Prelude.{◌≡◌, ◌+◌, ◌<◌, ◌≤◌, ◌^◌, ◌++◌, ◌∷◌, [], ℕ, List, None, IfOk, OnOk, OnErr, IsTrue, length};
 ghost use Rattle.std.specs.List.{list_all};
 ghost use Rattle.ak_core.specs.Journal.{SameLists};
-ghost use Rattle.ak_model.specs.Outputs.{OutputsAreFlat};
-ghost use Rattle.ak_model.specs.Events.{EventsAreFlat};
-ghost use Rattle.ak_model.specs.Answered.{AnswersAreTraced};
-ghost use Rattle.ak_top.specs.Served.{is_served};
-ghost use Rattle.ak_top.specs.OnePageLayout.{IsOnePageLayout};
-ghost use Rattle.ak_top.specs.Stands.{output_of_answer, state_of};
-ghost use Rattle.ak_top.specs.Quiet.{is_quiet};
+ghost use Rattle.ak_machine.specs.Served.{is_served};
+ghost use Rattle.ak_machine.specs.FirstImage.{one_page, page_of};
+ghost use Rattle.ak_machine.specs.State.{state_of, layout_of};
+ghost use Rattle.ak_machine.specs.Moves.{output_of_answer, event_in};
 ghost use Rattle.ak_top.specs.Faithful.{Faithful};
+ghost use Rattle.ak_top.specs.Steps.{IsJournalOn};
 
-use crate::machine::Machine;
-use ak_core::{Answer, Exit, Journal, Layout, Move, OutOfMemory};
+use ak_core::{Answer, Event, Exit, Journal, Move, OutOfMemory};
+use ak_machine::{Machine, ProgramNote};
 use std::alloc::Global;
 
 /// A machine, and the journal of the moves that it was given.
@@ -22,6 +20,9 @@ pub struct Session {
     pub machine: Machine,
     /// What happened.
     pub journal: Journal,
+    /// The program's completed instructions.
+    pub count: u64,
+    ghost counted: { count ≡ (state_of machine).count },
 }
 
 /// The output that an answer shows.
@@ -34,41 +35,57 @@ fn output_of(answer: Answer) -> Option<u64>
     }
 }
 
-impl Session {
-    /// The machine at the end of the build, and the empty journal.
-    pub fn begin(alloc: Global, layout: Layout, page: Vec<u8>) -> Session
-        requires served { IsOnePageLayout layout }
-        requires whole { length page.items ≡ 4096 }
-        ensures layout { result.machine.layout ≡ layout }
-        ensures faithful { Faithful layout page.items (state_of result.machine) result.journal }
-        ensures moves { result.journal.moves ≡ [] }
-        ensures count { result.machine.count ≡ 0 }
-    {
-        Session {
-            machine: Machine::build(layout, page),
-            journal: Journal::new(alloc),
+/// The event that a note stands for, where so many instructions are complete after it.
+fn event_of(note: ProgramNote, count: u64) -> Option<Event>
+    ensures { result ≡ event_in note count }
+{
+    match note {
+        ProgramNote::Plain => None,
+        ProgramNote::Called(number, argument) => {
+            Some(Event::Call(count.saturating_sub(1), number, argument))
         }
+        ProgramNote::Trapped(vector) => Some(Event::Trap(count, vector)),
+        ProgramNote::Faulted(_) => Some(Event::Break(count)),
+    }
+}
+
+impl Session {
+    /// The machine at the end of the build of a page with these bytes, and zeros after them, with the empty journal.
+    pub fn begin(alloc: Global, page: &[u8]) -> Result<Session, OutOfMemory>
+        requires { length page.now ≤ 4096 }
+        ensures layout { IfOk result (λ session. layout_of session.machine ≡ one_page) }
+        ensures faithful { IfOk result (λ session. Faithful one_page (page_of page.now) (state_of session.machine) session.journal) }
+        ensures moves { IfOk result (λ session. session.journal.moves ≡ []) }
+        ensures count { IfOk result (λ session. session.count ≡ 0) }
+    {
+        let machine = Machine::build(alloc, page)?;
+        Ok(Session {
+            machine,
+            journal: Journal::new(alloc),
+            count: 0,
+        })
     }
 
     /// Applies a move and writes it into the journal. Where memory runs out, nothing is applied.
     pub fn apply(&mut self, m: Move) -> Result<(), OutOfMemory>
         requires served { IsTrue (is_served m) }
-        requires room { self.old.machine.count + 1000000 < 2 ^ 64 }
-        ensures layout { self.new.machine.layout ≡ self.old.machine.layout }
+        requires room { self.old.count + 1000000 < 2 ^ 64 }
+        ensures layout { layout_of self.new.machine ≡ layout_of self.old.machine }
         ensures faithful { (image : List ℕ) →
-            Faithful self.old.machine.layout image (state_of self.old.machine) self.old.journal →
-            Faithful self.old.machine.layout image (state_of self.new.machine) self.new.journal }
+            Faithful (layout_of self.old.machine) image (state_of self.old.machine) self.old.journal →
+            Faithful (layout_of self.old.machine) image (state_of self.new.machine) self.new.journal }
         ensures moves { OnOk result (self.new.journal.moves ≡ self.old.journal.moves ++ m ∷ []) }
         ensures unchanged { OnErr result (SameLists self.old.journal self.new.journal) }
         ensures same { OnErr result (state_of self.new.machine ≡ state_of self.old.machine) }
-        ensures count { self.new.machine.count ≤ self.old.machine.count + 1000000 }
+        ensures count { self.new.count ≤ self.old.count + 1000000 }
     {
         self.journal.reserve()?;
-        let applied = self.machine.apply(m);
+        let applied = self.machine.apply(&m);
+        self.count += applied.completed;
         self.journal.append(
             m,
             applied.answer,
-            applied.event,
+            event_of(applied.program, self.count),
             output_of(applied.answer),
             None,
         );
@@ -76,34 +93,22 @@ impl Session {
     }
 }
 
-/// Applies these moves from the build on. The journal agrees with the program over memory that is never paged, and its
-/// answers are a function of the layout, the moves and the events.
-pub fn run_moves(
-    alloc: Global,
-    layout: Layout,
-    page: Vec<u8>,
-    moves: &[Move],
-) -> Result<Journal, OutOfMemory>
-    requires layout { IsOnePageLayout layout }
-    requires whole { length page.items ≡ 4096 }
+/// Applies these moves from the build on. The journal agrees with the program over memory that is never paged, its answers
+/// are a function of the layout, the moves and the events, and walks account for what the program accessed.
+pub fn run_moves(alloc: Global, page: &[u8], moves: &[Move]) -> Result<Journal, OutOfMemory>
+    requires fits { length page.now ≤ 4096 }
     requires served { IsTrue (list_all is_served moves.now) }
     requires few { length moves.now < 2 ^ 31 }
-    ensures moves { IfOk result (λ j. j.moves ≡ moves.now) }
-    ensures outputs { IfOk result (λ j. OutputsAreFlat page.items layout j) }
-    ensures events { IfOk result (λ j. EventsAreFlat page.items layout j) }
-    ensures answers { IfOk result (λ j. AnswersAreTraced layout j) }
-
-    // No miss and no break, since the page is always there.
-    ensures quiet { IfOk result (λ j. IsTrue (list_all is_quiet j.events)) }
-    ensures stop { IfOk result (λ j. j.stop ≡ None) }
+    ensures { IfOk result (IsJournalOn (page_of page.now) moves.now) }
 {
-    let mut session = Session::begin(alloc, layout, page);
+    let mut session = Session::begin(alloc, page)?;
     for m in moves {
         session.apply(*m)?;
     }
     let Session {
         machine: _,
         journal,
+        count: _,
     } = session;
     Ok(journal)
 }

@@ -64,6 +64,15 @@ fn large_sink(alloc: Global) -> Result<MemSink, Fail> {
     Ok(sink)
 }
 
+/// Runs an image with a script: its status, and what was written to each sink.
+fn ran(alloc: Global, image: &[u8], script: &[u8]) -> Result<(u8, MemSink, MemSink), Fail> {
+    let mut files = files_of(alloc, image, script)?;
+    let mut out = large_sink(alloc)?;
+    let mut err = large_sink(alloc)?;
+    let status = program(alloc, RUN, &mut files, &mut out, &mut err)?;
+    Ok((status, out, err))
+}
+
 #[test]
 fn reports(rt: HostRuntime) -> Result<(), Fail> {
     let cases: [(&[u8], &[u8], &str); 11] = [
@@ -125,13 +134,102 @@ fn reports(rt: HostRuntime) -> Result<(), Fail> {
         ),
     ];
     for (image, script, report) in cases {
-        let mut files = files_of(rt.alloc(), image, script)?;
-        let mut out = large_sink(rt.alloc())?;
-        let mut err = large_sink(rt.alloc())?;
-        let status = program(rt.alloc(), RUN, &mut files, &mut out, &mut err)?;
+        let (status, out, err) = ran(rt.alloc(), image, script)?;
         assert_eq!(rt; out.taken(), report.as_bytes(), "{report}");
         assert_eq!(rt; err.taken(), b"".as_slice(), "{report}");
         assert_eq!(rt; status, 0, "{report}");
+    }
+    Ok(())
+}
+
+#[test]
+fn remaps(rt: HostRuntime) -> Result<(), Fail> {
+    let cases: [(&[u8], &[u8], &str); 8] = [
+        // The page is mapped by the build. No other page may be mapped, and a refusal changes nothing.
+        (
+            TWO_CALLS,
+            b"readpte 0\nreadpte 1\nreadpte 4294967295\nsetpte 1 8 -\nsetpte 4294967295 8 pxad\nreadpte 0\neenter 0 0\nrun 0 1000\n",
+            "autarky 1\n1 readpte 0 -> pte 8 pxad\n2 readpte 1 -> nopage\n3 readpte 4294967295 -> nopage\n4 setpte 1 8 - -> nopage\n5 setpte 4294967295 8 pxad -> nopage\n6 readpte 0 -> pte 8 pxad\n7 eenter 0 0 -> ok\n8 run 0 1000 -> call 1 7\noutput 7\nevent call 3 1 7\n",
+        ),
+        // Writing to code is asked of no walk.
+        (
+            TWO_CALLS,
+            b"setpte 0 8 pwxad\nreadpte 0\neenter 0 0\nrun 0 1000\n",
+            "autarky 1\n1 setpte 0 8 pwxad -> ok\n2 readpte 0 -> pte 8 pwxad\n3 eenter 0 0 -> ok\n4 run 0 1000 -> call 1 7\noutput 7\nevent call 3 1 7\n",
+        ),
+        // Unmapped and mapped again between two turns.
+        (
+            TWO_CALLS,
+            b"eenter 0 0\nrun 0 1\nrun 0 1\nsetpte 0 8 -\nsetpte 0 8 pxad\nrun 0 1\nrun 0 1000\n",
+            "autarky 1\n1 eenter 0 0 -> ok\n2 run 0 1 -> in\n3 run 0 1 -> in\n4 setpte 0 8 - -> ok\n5 setpte 0 8 pxad -> ok\n6 run 0 1 -> in\n7 run 0 1000 -> call 1 7\noutput 7\nevent call 3 1 7\n",
+        ),
+        // The step after an entry accesses no page.
+        (
+            TWO_CALLS,
+            b"setpte 0 8 -\neenter 0 0\nrun 0 1\nsetpte 0 8 pxad\nrun 0 1000\n",
+            "autarky 1\n1 setpte 0 8 - -> ok\n2 eenter 0 0 -> ok\n3 run 0 1 -> in\n4 setpte 0 8 pxad -> ok\n5 run 0 1000 -> call 1 7\noutput 7\nevent call 3 1 7\n",
+        ),
+        // Unmapped after an instruction was fetched from it: the program breaks there, and stops for ever.
+        (
+            TWO_CALLS,
+            b"eenter 0 0\nrun 0 1\nrun 0 1\nsetpte 0 8 -\nrun 0 1\nrun 0 1\nreadpte 0\neenter 0 0\nrun 0 1\nsetpte 0 8 pxad\neenter 0 0\nrun 0 1\n",
+            "autarky 1\n1 eenter 0 0 -> ok\n2 run 0 1 -> in\n3 run 0 1 -> in\n4 setpte 0 8 - -> ok\n5 run 0 1 -> pf 268435456 4\n6 run 0 1 -> outside\n7 readpte 0 -> pte 8 -\n8 eenter 0 0 -> ok\n9 run 0 1 -> stopped\n10 setpte 0 8 pxad -> ok\n11 eenter 0 0 -> ok\n12 run 0 1 -> stopped\nevent break 1\n",
+        ),
+        // Mapped again after the break: too late.
+        (
+            TWO_CALLS,
+            b"setpte 0 8 -\neenter 0 0\nrun 0 9\nsetpte 0 8 pxad\neenter 0 0\nrun 0 9\n",
+            "autarky 1\n1 setpte 0 8 - -> ok\n2 eenter 0 0 -> ok\n3 run 0 9 -> pf 268435456 4\n4 setpte 0 8 pxad -> ok\n5 eenter 0 0 -> ok\n6 run 0 9 -> stopped\nevent break 0\n",
+        ),
+        // Unmapped while a call waits for its answer.
+        (
+            TWO_CALLS,
+            b"eenter 0 0\nrun 0 1000\nsetpte 0 8 pad\neenter 0 0\nrun 0 1000\neenter 0 0\nrun 0 1000\n",
+            "autarky 1\n1 eenter 0 0 -> ok\n2 run 0 1000 -> call 1 7\n3 setpte 0 8 pad -> ok\n4 eenter 0 0 -> ok\n5 run 0 1000 -> pf 268435456 4\n6 eenter 0 0 -> ok\n7 run 0 1000 -> stopped\noutput 7\nevent call 3 1 7\nevent break 4\n",
+        ),
+        // Unmapped after a vector.
+        (
+            b"\x06",
+            b"eenter 0 0\nrun 0 9\nsetpte 0 8 -\neenter 0 0\nrun 0 9\n",
+            "autarky 1\n1 eenter 0 0 -> ok\n2 run 0 9 -> vector 6\n3 setpte 0 8 - -> ok\n4 eenter 0 0 -> ok\n5 run 0 9 -> trapped 6\nevent trap 0 6\n",
+        ),
+    ];
+    for (image, script, report) in cases {
+        let (status, out, err) = ran(rt.alloc(), image, script)?;
+        assert_eq!(rt; out.taken(), report.as_bytes(), "{report}");
+        assert_eq!(rt; err.taken(), b"".as_slice(), "{report}");
+        assert_eq!(rt; status, 0, "{report}");
+    }
+    Ok(())
+}
+
+#[test]
+fn breaks(rt: HostRuntime) -> Result<(), Fail> {
+    // Frame 8 with a flag missing, and frames that hold other pages, or are none.
+    let entries = [
+        "8 xad",
+        "8 pad",
+        "8 pxd",
+        "8 pxa",
+        "8 w",
+        "8 -",
+        "0 pxad",
+        "1 pxad",
+        "2 pxad",
+        "9 pxad",
+        "4294967295 pxad",
+    ];
+    for entry in entries {
+        let script = format!(in rt.alloc();
+            "setpte 0 {entry}\neenter 0 0\nrun 0 1\nrun 0 1\nreadpte 0\neenter 0 0\nrun 0 9\n"
+        )?;
+        let report = format!(in rt.alloc();
+            "autarky 1\n1 setpte 0 {entry} -> ok\n2 eenter 0 0 -> ok\n3 run 0 1 -> in\n4 run 0 1 -> pf 268435456 4\n5 readpte 0 -> pte {entry}\n6 eenter 0 0 -> ok\n7 run 0 9 -> stopped\nevent break 0\n"
+        )?;
+        let (status, out, err) = ran(rt.alloc(), TWO_CALLS, script.as_bytes())?;
+        assert_eq!(rt; out.taken(), report.as_bytes(), "{entry}");
+        assert_eq!(rt; err.taken(), b"".as_slice(), "{entry}");
+        assert_eq!(rt; status, 0, "{entry}");
     }
     Ok(())
 }
@@ -241,7 +339,7 @@ fn refusals(rt: HostRuntime) -> Result<(), Fail> {
         (
             RUN,
             TWO_CALLS,
-            b"eenter 0 0\nsetpte 0 8 -\n",
+            b"eenter 0 0\nsetpte 0 8 wp\n",
             4,
             "script refused: line 2: 2 unknown\n",
         ),

@@ -1,48 +1,28 @@
 // The whole program, over the files and sinks that are handed in.
 ghost use Rattle.std.specs.Prelude.{◌≡◌, ◌↔◌, ◌<◌, ◌≤◌, ◌^◌, ℕ, map, string_bytes, None, IfOk, IfErr, OnOk, OnErr, IsTrue, IsSome, IfSome, IsSomeAnd, length, nat_lt};
-ghost use Rattle.ak_model.specs.Outputs.{OutputsAreFlat};
-ghost use Rattle.ak_top.specs.FirstImage.{one_page, page_of};
 ghost use Rattle.ak_top.specs.NamesGiven.{names_given};
-ghost use Rattle.ak_top.specs.Served.{is_served};
 ghost use Rattle.ak_top.specs.Seen.{files_seen, sink_seen};
-ghost use Rattle.ak_top.specs.Steps.{IsJournalOn, Writes};
+ghost use Rattle.ak_top.specs.Steps.{Writes};
 ghost use Rattle.ak_top.specs.Top.{Ends, KeepsStill, AsksBy, AsksOf, Reports, ReportsFront, is_too_long};
 ghost use Rattle.ak_top.specs.TopCall.{Serves};
 ghost use Rattle.ak_top.specs.Words.{words_of};
 ghost use Rattle.ak_outside.specs.Causes.{Rose};
 ghost use Rattle.ak_top.specs.declared.trouble.Place.TheVariants.{Script};
-ghost use Rattle.std.specs.List.{list_all};
 
-use crate::first_image::{PAGE_SIZE, layout, padded};
 use crate::report::report_text;
 use crate::script::{ScriptFault, read_script};
 use crate::session::run_moves;
 use crate::trouble::{Place, Trouble, tell};
 use crate::words::{Names, read_words};
-use ak_core::{Journal, Move, OutOfMemory};
+use ak_core::{Journal, OutOfMemory};
 use ak_outside::{Files, FilesFault, Sink, write_lines};
 use std::alloc::Global;
 
 /// The most bytes that a file may have.
 const LIMIT: usize = 8_388_608;
 
-/// Builds the enclave and applies the moves.
-fn make_journal(alloc: Global, image: Vec<u8>, moves: &[Move]) -> Result<Journal, OutOfMemory>
-    requires fits { length image.items ≤ PAGE_SIZE }
-    requires served { IsTrue (list_all is_served moves.now) }
-    requires few { length moves.now < 2 ^ 31 }
-    ensures { IfOk result (IsJournalOn (page_of image.items) moves.now) }
-{
-    let layout = match layout(alloc) {
-        Ok(layout) => layout,
-        Err(fault) => return Err(fault),
-    };
-    let page = match padded(image) {
-        Ok(page) => page,
-        Err(fault) => return Err(fault),
-    };
-    run_moves(alloc, layout, page, moves)
-}
+/// The bytes of the one page, and so the most that an image may have.
+const PAGE_SIZE: usize = 4096;
 
 /// Writes the report of a journal, a line in each write, after all memory was taken.
 fn write_report<O: Sink>(alloc: Global, journal: &Journal, out: &mut O) -> Result<(), Trouble>
@@ -92,7 +72,7 @@ fn run_command<F: Files, O: Sink>(
         Err(ScriptFault::Refused(line)) => return Err(Trouble::ScriptRefused(line)),
         Err(ScriptFault::OutOfMemory) => return Err(Trouble::OutOfMemory),
     };
-    match make_journal(alloc, image, &moves) {
+    match run_moves(alloc, &image, &moves) {
         Ok(journal) => write_report(alloc, &journal, out),
         Err(OutOfMemory) => Err(Trouble::OutOfMemory),
     }

@@ -1,6 +1,6 @@
 use Rattle.std.proofs.Common.{◌≡◌, ◌≤◌, ◌<◌, ◌+◌, ℕ, drop, length, get_or, map, true}
 use Rattle.std.specs.List.{list_all}
-use Rattle.ak_top.specs.Served.{is_served}
+use Rattle.ak_machine.specs.Served.{is_served}
 use Rattle.ak_top.specs.Script.{script_of, read_from, before, move_of, lines_of}
 use Rattle.ak_top.proofs.script.read_script.Given as goal
 

@@ -1,15 +1,24 @@
-use Rattle.std.proofs.Common.{◌∙◌, ap}
+use Rattle.std.proofs.Common.{◌≡◌, ◌+◌, ◌∙◌, ap, sym}
 use Rattle.ak_core.specs.Journal.{with_more}
-use Rattle.ak_top.specs.Stands.{state_of}
+use Rattle.ak_machine.specs.State.{state_of, layout_of}
+use Rattle.ak_machine.specs.Moves.{event_in}
 use Rattle.ak_top.proofs.Sessions.{one_more, same_lists}
 use Rattle.ak_top.proofs.session.Session.apply.Goals as goal
 
 pub returns-clause-faithful : goal.returns-clause-faithful
 returns-clause-faithful c = λ image faithful.
-    let m = c.args.self.now.machine in
-    let same = c.reserve.ensures.same in
-    let f = same_lists m.layout image (state_of m) c.args.self.now.journal c.reserve.new.self faithful same.moves same.answers same.outputs same.events same.stop in
+    let old = c.args.self.now in
+    let room = c.reserve.new.self in
     let applied = c.apply-applied.result in
-    one_more m.layout image (state_of m) (state_of c.apply-applied.new.self) c.reserve.new.self c.append.new.self c.args.m applied.answer applied.event f
-    (c.apply-applied.ensures.moved image f.values c.reserve.new.self.outputs c.reserve.new.self.events f.past f.stands f.within)
-    c.append.ensures.moves c.append.ensures.answers (c.append.ensures.outputs ∙ ap (with_more c.reserve.new.self.outputs) c.output_of.ensures) c.append.ensures.events c.append.ensures.stop
+    let machine = c.apply-applied.new.self in
+    let layout = layout_of old.machine in
+    let event = event_in applied.program (state_of machine).count in
+    let f = same_lists layout image (state_of old.machine) old.journal room c.reserve.ensures.same faithful in
+    let d = c.apply-applied.ensures.moved image f.past f.values room.outputs room.events f.stands in
+    let count : old.count + applied.completed ≡ (state_of machine).count = ap (λ n. n + applied.completed) old.counted ∙ sym c.apply-applied.ensures.completed in
+    let same : c.event_of.result ≡ event = c.event_of.ensures ∙ ap (event_in applied.program) count in
+    one_more layout image (state_of old.machine) (state_of machine) room c.args.m applied.answer event f d c.append.new.self
+    c.append.ensures.moves c.append.ensures.answers
+    (c.append.ensures.outputs ∙ ap (with_more room.outputs) c.output_of.ensures)
+    (c.append.ensures.events ∙ ap (with_more room.events) same)
+    c.append.ensures.stop
