@@ -33,7 +33,7 @@ use Rattle.ak_model.proofs.Orderly.{trace_is_orderly}
 use Rattle.ak_model.proofs.BlamedTurns.{run_stands}
 
 -- a reason that does not refuse is passed over
-passed : (reason : Reason) (o : Option Reason) → refuses_by reason ≡ false → refusal_or reason o ≡ o
+pub passed : (reason : Reason) (o : Option Reason) → refuses_by reason ≡ false → refusal_or reason o ≡ o
 passed Interrupted o h = refl
 passed Cleared o h = refl
 passed (Raised v) o h = absurd (cc)

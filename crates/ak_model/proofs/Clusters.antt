@@ -34,7 +34,7 @@ distinct-drop zero queue h = h
 distinct-drop (suc d) [] h = tt
 distinct-drop (suc d) (x ∷ queue) h = distinct-drop d queue h.1
 
-distinct-append : (queue : List ℕ) (c : ℕ) → IsDistinct queue → is_in queue c ≡ false → IsDistinct (queue ++ c ∷ [])
+pub distinct-append : (queue : List ℕ) (c : ℕ) → IsDistinct queue → is_in queue c ≡ false → IsDistinct (queue ++ c ∷ [])
 distinct-append [] c h out = (refl, tt)
 distinct-append (x ∷ queue) c h out =
     let parts = or_parts (x == c) (is_in queue c) out in

@@ -7,10 +7,7 @@ use Rattle.ak_core.specs.declared.instruction.Instr.{Instr}
 use Rattle.ak_core.specs.declared.instruction.Instr.TheVariants.{MovImm, MovTo, MovFrom, Store, Load, StoreByte, LoadByte, Add, Sub, And, Or, Xor, Compare, Test, Multiply, ShiftLeft, ShiftRight, Divide, Jump, CallNear, JumpIf, Return, Push, Pop, Nop, Undefined, Enclu}
 use Rattle.ak_core.specs.declared.instruction.Decoded.{Decoded}
 use Rattle.ak_core.specs.declared.instruction.Decoded.TheVariants.{Whole, NeedMore, Illegal}
-use Rattle.ak_model.specs.Encodings.{Match, Fits, match_parts, no_fields}
-use Rattle.ak_model.specs.Build.{encodings}
-use Rattle.ak_model.specs.Flat.{decode}
-use Rattle.ak_model.proofs.Samples.{image_a}
+use Rattle.ak_model.specs.Encodings.{Match, Fits, match_parts, no_fields, table, decode}
 
 -- bytes, and the instruction that they are
 unfoldable examples : List (List ℕ × Instr)
@@ -100,7 +97,7 @@ is_short Illegal = false
 
 -- after each of the first n beginnings of these bytes, the empty one among them, more are wanted
 abbrev are_short : List ℕ → ℕ → Bool
-are_short bytes n = list_all (λ k. is_short (decode image_a (take k bytes))) (range_with_len 0 n)
+are_short bytes n = list_all (λ k. is_short (decode (take k bytes))) (range_with_len 0 n)
 
 -- the bytes fit the row
 abbrev fits : Match → Bool
@@ -108,17 +105,17 @@ fits (Fits fields) = true
 fits _ = false
 
 -- there is an example for each encoding
-each_row : list_all (λ row. list_any (λ example. fits (match_parts row.parts example.0 no_fields)) examples) (encodings image_a.build) ≡ true
+each_row : list_all (λ row. list_any (λ example. fits (match_parts row.parts example.0 no_fields)) examples) table ≡ true
 unfolding examples
 each_row = refl
 
 -- each is its instruction, of its length
-wholes : map (λ example. decode image_a example.0) examples ≡ map (λ example. Whole example.1 (length example.0)) examples
+wholes : map (λ example. decode example.0) examples ≡ map (λ example. Whole example.1 (length example.0)) examples
 unfolding examples
 wholes = refl
 
 -- so it is before other bytes
-wholes_before : map (λ example. decode image_a (example.0 ++ 0x48 ∷ 0x89 ∷ [])) examples ≡ map (λ example. Whole example.1 (length example.0)) examples
+wholes_before : map (λ example. decode (example.0 ++ 0x48 ∷ 0x89 ∷ [])) examples ≡ map (λ example. Whole example.1 (length example.0)) examples
 unfolding examples
 wholes_before = refl
 
@@ -128,7 +125,7 @@ unfolding examples
 prefixes = refl
 
 -- strangers are found out at their last byte, and not before
-strange : map (decode image_a) strangers ≡ map (λ bytes. Illegal) strangers
+strange : map decode strangers ≡ map (λ bytes. Illegal) strangers
 unfolding strangers
 strange = refl
 

@@ -7,13 +7,8 @@ use Rattle.std.proofs.lemmas.Bool.{and_parts, leb-true}
 use Rattle.ak_core.specs.declared.instruction.Instr.{Instr}
 use Rattle.ak_core.specs.declared.instruction.Decoded.{Decoded}
 use Rattle.ak_core.specs.declared.instruction.Decoded.TheVariants.{Whole}
-use Rattle.ak_model.specs.Encodings.{Part, Byte, W, WB, N, High, Plus, Both, Memory, Digit, Low, with_operands, with_prefix, Fields, Row, Match, Fits, Short, Differs, no_fields, read_part, match_on, match_parts, decoded_as, decode_by, table}
+use Rattle.ak_model.specs.Encodings.{Part, Byte, W, WB, N, High, Plus, Both, Memory, Digit, Low, with_operands, with_prefix, Fields, Row, Match, Fits, Short, Differs, no_fields, read_part, match_on, match_parts, decoded_as, decode_by, decode, table}
 use Rattle.ak_model.specs.Instructions.{HasRegisters}
-use Rattle.ak_model.specs.Build.{encodings}
-use Rattle.ak_core.specs.declared.build.Build.{Build}
-use Rattle.ak_core.specs.declared.build.Build.TheVariants.{Resident, Sealed}
-use Rattle.ak_core.specs.Layout.{Layout}
-use Rattle.ak_model.specs.Flat.{decode}
 
 -- ---- Decoding reads no more bytes than the longest row has parts
 
@@ -21,7 +16,8 @@ on_more : (o : Option Fields) (parts : List Part) (n : ℕ) (bytes : List ℕ) �
 on_more None parts n bytes h = refl
 on_more (Some fields) parts n bytes h = h fields
 
-match_parts-take : (parts : List Part) (n : ℕ) (bytes : List ℕ) (fields : Fields) → length parts ≤ n → match_parts parts (take n bytes) fields ≡ match_parts parts bytes fields
+-- bytes past the last part don't matter
+pub match_parts-take : (parts : List Part) (n : ℕ) (bytes : List ℕ) (fields : Fields) → length parts ≤ n → match_parts parts (take n bytes) fields ≡ match_parts parts bytes fields
 match_parts-take [] n bytes fields h = refl
 match_parts-take (part ∷ parts) zero bytes fields h = absurd (omega arith)
 match_parts-take (part ∷ parts) (suc n) [] fields h = refl
@@ -141,26 +137,21 @@ decode_by-size (row ∷ rows) n bytes instr size h w =
     size_by row (match_parts row.parts bytes no_fields) (decode_by rows bytes) instr n size (leb-true _ _ both.0) w
     (decode_by-size rows n bytes instr size both.1)
 
--- ---- The rows of either build
-
-encodings_short : (build : Build) → are_short 10 (encodings build) ≡ true
-encodings_short Resident = refl
-encodings_short Sealed = refl
+-- ---- The rows of the table
 
 -- ten bytes are enough
-pub decode-take : (layout : Layout) (bytes : List ℕ) → decode layout (take 10 bytes) ≡ decode layout bytes
-decode-take layout bytes = decode_by-take (encodings layout.build) 10 bytes (encodings_short layout.build)
+pub decode-take : (bytes : List ℕ) → decode (take 10 bytes) ≡ decode bytes
+decode-take bytes = decode_by-take table 10 bytes refl
 
-pub decode-length : (layout : Layout) (bytes : List ℕ) (instr : Instr) (n : ℕ) → decode layout bytes ≡ Whole instr n → n ≤ length bytes
-decode-length layout bytes instr n w = decode_by-length (encodings layout.build) bytes instr n w
+pub decode-length : (bytes : List ℕ) (instr : Instr) (n : ℕ) → decode bytes ≡ Whole instr n → n ≤ length bytes
+decode-length bytes instr n w = decode_by-length table bytes instr n w
+
+pub decode-size : (bytes : List ℕ) (instr : Instr) (n : ℕ) → decode bytes ≡ Whole instr n → n ≤ 10
+decode-size bytes instr n w = decode_by-size table 10 bytes instr n refl w
 
 each_has : EachRow HasRegisters table
 each_has =
     (λ f h. h.reg, (λ f h. (h.rm, h.reg), (λ f h. (h.rm, h.reg), (λ f h. (h.rm, h.reg), (λ f h. (h.rm, h.reg), (λ f h. (h.rm, h.reg), (λ f h. (h.rm, h.reg), (λ f h. (h.rm, h.reg), (λ f h. (h.rm, h.reg), (λ f h. (h.rm, h.reg), (λ f h. (h.rm, h.reg), (λ f h. (h.rm, h.reg), (λ f h. (h.rm, h.reg), (λ f h. (h.rm, h.reg), (λ f h. (h.rm, h.reg), (λ f h. h.rm, (λ f h. h.rm, (λ f h. h.rm, (λ f h. tt, (λ f h. tt, (λ f h. tt, (λ f h. tt, (λ f h. tt, (λ f h. tt, (λ f h. tt, (λ f h. tt, (λ f h. tt, (λ f h. tt, (λ f h. tt, (λ f h. h.reg, (λ f h. h.reg, (λ f h. h.reg, (λ f h. h.reg, (λ f h. tt, (λ f h. tt, (λ f h. tt, tt))))))))))))))))))))))))))))))))))))
 
-encodings_have : (build : Build) → EachRow HasRegisters (encodings build)
-encodings_have Resident = (λ f h. h.reg, (λ f h. (h.rm, h.reg), (λ f h. tt, tt)))
-encodings_have Sealed = each_has
-
-pub decode-registers : (layout : Layout) (bytes : List ℕ) (instr : Instr) (size : ℕ) → decode layout bytes ≡ Whole instr size → HasRegisters instr
-decode-registers layout bytes instr size w = decode_by-each HasRegisters (encodings layout.build) bytes instr size (encodings_have layout.build) w
+pub decode-registers : (bytes : List ℕ) (instr : Instr) (n : ℕ) → decode bytes ≡ Whole instr n → HasRegisters instr
+decode-registers bytes instr n w = decode_by-each HasRegisters table bytes instr n each_has w

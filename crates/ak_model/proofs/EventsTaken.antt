@@ -35,7 +35,7 @@ use Rattle.ak_model.proofs.Placed.{placed}
 -- ---- Events of turns
 
 -- the event of a turn, before others
-abbrev with_event : Option Event → List Event → List Event
+abbrev pub with_event : Option Event → List Event → List Event
 with_event None rest = rest
 with_event (Some event) rest = event ∷ rest
 
@@ -189,7 +189,7 @@ some_cluster : (xs : List ℕ) (n : ℕ) → 1 ≤ length xs → numbers_from xs
 some_cluster [] n some h = absurd (omega arith)
 some_cluster (x ∷ xs) n some h = let l = (first_below x xs 0 n (nat_lt x 0) (x == 0) refl refl h).0 in omega arith
 
-cluster_below : (layout : Layout) → IsValid layout → (p : ℕ) → cluster_at layout p < layout.clusters
+pub cluster_below : (layout : Layout) → IsValid layout → (p : ℕ) → cluster_at layout p < layout.clusters
 cluster_below layout valid p =
     let long : 1 ≤ length layout.cluster_of = let a = valid.clustered in let b = valid.some_page in omega arith in
     each_below layout.cluster_of 0 layout.clusters (some_cluster layout.cluster_of layout.clusters long valid.numbered) valid.numbered p
@@ -197,10 +197,10 @@ cluster_below layout valid p =
 -- ---- Misses
 
 module _ (layout : Layout) (valid : IsValid layout) (runs : Runs) where
-  without_miss : (turn : ProgramTurn) (older : List ProgramTurn) → missed_by turn.event ≡ None → queue_by layout (turn ∷ older) ≡ queue_by layout older
+  pub without_miss : (turn : ProgramTurn) (older : List ProgramTurn) → missed_by turn.event ≡ None → queue_by layout (turn ∷ older) ≡ queue_by layout older
   without_miss turn older e = rw e refl
 
-  with_miss : (turn : ProgramTurn) (older : List ProgramTurn) (c : ℕ) → missed_by turn.event ≡ Some c → queue_by layout (turn ∷ older) ≡ after_miss layout (queue_by layout older) c
+  pub with_miss : (turn : ProgramTurn) (older : List ProgramTurn) (c : ℕ) → missed_by turn.event ≡ Some c → queue_by layout (turn ∷ older) ≡ after_miss layout (queue_by layout older) c
   with_miss turn older c e =
       let misses = filter_map (λ turn. missed_by turn.event) older in
       rw e (ap (queue_after layout) (reverse-append (c ∷ []) misses) ∙ queue_after-more layout (reverse misses) c)

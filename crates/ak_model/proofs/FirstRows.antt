@@ -1,16 +1,14 @@
--- The rows of a program that is in frames from the start, with its three instructions.
+-- The rows of a program that is in frames from the start.
 use Rattle.std.specs.Prelude.{◌≡◌, [], ◌∷◌, refl}
 use Rattle.ak_core.specs.Layout.{Layout}
 use Rattle.ak_core.specs.declared.moves.Exit.{Exit}
 use Rattle.ak_core.specs.declared.moves.Answer.TheVariants.{Ok, NoPage, Inside, Outside, NoLp}
 use Rattle.ak_core.specs.declared.event.Event.TheVariants.{Call, Trap, Break}
-use Rattle.ak_core.specs.declared.instruction.Instr.TheVariants.{MovImm, Add, Enclu}
-use Rattle.ak_core.specs.declared.instruction.Decoded.TheVariants.{Whole, NeedMore, Illegal}
 use Rattle.ak_core.specs.declared.build.Build.TheVariants.{Resident}
 use Rattle.ak_model.specs.Holdings.{FreeFrame, PageFrame, InFrame}
 use Rattle.ak_model.specs.Frames.{held}
 use Rattle.ak_model.specs.Handles.{given, place}
-use Rattle.ak_model.specs.Flat.{decode, outputs}
+use Rattle.ak_model.specs.Flat.{outputs}
 use Rattle.ak_model.specs.Build.{queue_at_build}
 use Rattle.ak_model.proofs.Samples.{image_a, in_frames, setpte, readpte, none, pxad, frame, eenter, run, ex, pf}
 use Rattle.ak_model.proofs.Rows.{Holds}
@@ -77,29 +75,7 @@ all_in : queue_at_build Resident one_page ≡ 0 ∷ []
 unfolding one_page
 all_in = refl
 
--- ---- The three instructions
-
-first_whole : decode one_page code_a ≡ Whole (MovImm 0 4) 10
-unfolding one_page code_a
-first_whole = refl
-
-sum_whole : decode one_page (0x48 ∷ 0x01 ∷ 0xfe ∷ []) ≡ Whole (Add 6 7) 3
-unfolding one_page
-sum_whole = refl
-
-call_whole : decode one_page (0x0f ∷ 0x01 ∷ 0xd7 ∷ 0x48 ∷ []) ≡ Whole Enclu 3
-unfolding one_page
-call_whole = refl
-
--- another encoding is none here
-other_illegal : decode one_page (0x90 ∷ []) ≡ Illegal
-unfolding one_page
-other_illegal = refl
-
-short_prefix : decode one_page (0x4d ∷ 0x01 ∷ []) ≡ NeedMore
-unfolding one_page
-short_prefix = refl
-
+-- its output
 outputs_first : outputs one_page bytes_a (0 ∷ []) 8 ≡ 7 ∷ []
 unfolding one_page bytes_a code_a filled
 outputs_first = refl

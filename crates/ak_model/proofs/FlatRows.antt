@@ -6,7 +6,8 @@ use Rattle.ak_core.specs.declared.page.Kind.TheVariants.{Write, Exec}
 use Rattle.ak_core.specs.declared.page.Perm.TheVariants.{Rw, Rx}
 use Rattle.ak_core.specs.declared.instruction.Instr.TheVariants.{MovImm, Jump}
 use Rattle.ak_core.specs.declared.instruction.Decoded.TheVariants.{Whole, NeedMore, Illegal}
-use Rattle.ak_model.specs.Flat.{decode, End, Next, Call, Vector, Run, line, step, flat_run, outputs}
+use Rattle.ak_model.specs.Encodings.{decode}
+use Rattle.ak_model.specs.Flat.{End, Next, Call, Vector, Run, line, step, flat_run, outputs}
 use Rattle.ak_model.proofs.Samples.{layout_of, image_a}
 
 -- a page that begins with these bytes
@@ -34,17 +35,17 @@ unfoldable pub bytes_a : List ℕ
 unfolding filled code_a
 bytes_a = filled code_a
 
-first_of_a : decode image_a code_a ≡ Whole (MovImm 0 4) 10
+first_of_a : decode code_a ≡ Whole (MovImm 0 4) 10
 unfolding code_a
 first_of_a = refl
 
-jump_back : decode image_a (0xe9 ∷ 0xfb ∷ 0xff ∷ 0xff ∷ 0xff ∷ []) ≡ Whole (Jump (Rattle.std.specs.Prelude.negsuc 4)) 5
+jump_back : decode (0xe9 ∷ 0xfb ∷ 0xff ∷ 0xff ∷ 0xff ∷ []) ≡ Whole (Jump (Rattle.std.specs.Prelude.negsuc 4)) 5
 jump_back = refl
 
-cut : decode image_a (0x48 ∷ 0x89 ∷ 0x83 ∷ 0xfc ∷ []) ≡ NeedMore
+cut : decode (0x48 ∷ 0x89 ∷ 0x83 ∷ 0xfc ∷ []) ≡ NeedMore
 cut = refl
 
-none : decode image_a (0x06 ∷ []) ≡ Illegal
+none : decode (0x06 ∷ []) ≡ Illegal
 none = refl
 
 -- the first call, after three instructions, and the end
@@ -108,3 +109,12 @@ bytes_i = 72 ∷ 247 ∷ 241 ∷ []
 by_zero : shown_at image_a (flat_run image_a (filled bytes_i) [] 0) ≡ 0 ∷ []
 unfolding bytes_i filled
 by_zero = refl
+
+-- a program that puts out what its call returned, and then ends
+code_h : List ℕ
+code_h = 72 ∷ 184 ∷ 4 ∷ 0 ∷ 0 ∷ 0 ∷ 0 ∷ 0 ∷ 0 ∷ 0 ∷ 72 ∷ 191 ∷ 2 ∷ 0 ∷ 0 ∷ 0 ∷ 0 ∷ 0 ∷ 0 ∷ 0 ∷ 15 ∷ 1 ∷ 215 ∷ 72 ∷ 137 ∷ 198 ∷ 72 ∷ 184 ∷ 4 ∷ 0 ∷ 0 ∷ 0 ∷ 0 ∷ 0 ∷ 0 ∷ 0 ∷ 72 ∷ 191 ∷ 1 ∷ 0 ∷ 0 ∷ 0 ∷ 0 ∷ 0 ∷ 0 ∷ 0 ∷ 15 ∷ 1 ∷ 215 ∷ 72 ∷ 184 ∷ 4 ∷ 0 ∷ 0 ∷ 0 ∷ 0 ∷ 0 ∷ 0 ∷ 0 ∷ 72 ∷ 191 ∷ 0 ∷ 0 ∷ 0 ∷ 0 ∷ 0 ∷ 0 ∷ 0 ∷ 0 ∷ 15 ∷ 1 ∷ 215 ∷ []
+
+-- the answer of the call is what comes back in RAX
+outputs_h : outputs image_a (filled code_h) (9 ∷ 0 ∷ []) 10 ≡ 9 ∷ []
+unfolding code_h filled
+outputs_h = refl

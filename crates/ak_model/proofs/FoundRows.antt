@@ -377,3 +377,19 @@ next_vector = refl
 next_touches : touches_of two_pages (flat_run two_pages (ending (0x48 ∷ []) ++ page_of (0x06 ∷ [])) [] 0) ≡ touch 0 Exec ∷ touch 1 Exec ∷ []
 unfolding ending
 next_touches = refl
+
+-- ---- Moves after a stop
+
+-- a page of the runtime is lost again after the enclave has stopped: the loss before the stop is blamed
+unfoldable lost_again : Journal
+lost_again = stops ((eenter 0 0, Ok) ∷ (run 0 10, pf) ∷ (eenter 0 0, Ok) ∷ (interrupt 0, Ok) ∷ (eenter 0 0, Ok) ∷ (eblock 4, Ok) ∷ (run 0 1, pf)
+    ∷ (Etrack, Ok) ∷ (ewb 4 1 1, sealed 1) ∷ (eldu 4 1 3 1 1, Ok) ∷ (eblock 4, Ok) ∷ (Etrack, Ok) ∷ [])
+    (Miss 0 0 ∷ []) (Stuck (page 3) Write) 6
+
+lost_again_answers : AnswersAreTraced image_a lost_again
+unfolding lost_again
+lost_again_answers = record { answered = refl; taken = refl }
+
+lost_again_stop : IsStopped image_a lost_again
+unfolding lost_again
+lost_again_stop = record { stopped = refl }

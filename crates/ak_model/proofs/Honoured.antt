@@ -72,7 +72,7 @@ module _ (layout : Layout) where
   no_fault past [] h = refl
   no_fault past (t ∷ all) h = let e = h.0 in rw e (no_fault past all h.1)
 
-  all_at : (test : ℕ → Bool) (xs : List ℕ) (i : ℕ) → list_all test xs ≡ true → i < length xs → test (slice_index xs i) ≡ true
+  pub all_at : (test : ℕ → Bool) (xs : List ℕ) (i : ℕ) → list_all test xs ≡ true → i < length xs → test (slice_index xs i) ≡ true
   all_at test [] i h l = absurd (omega arith)
   all_at test (x ∷ xs) zero h l = (and_parts (test x) (list_all test xs) h).0
   all_at test (x ∷ xs) (suc i) h l = all_at test xs i (and_parts (test x) (list_all test xs) h).1 (omega arith)
@@ -110,7 +110,7 @@ module _ (layout : Layout) where
   not_past phase last Guard reason h = refl
   not_past phase last (Leave b a) reason h = refl
 
-  none_past : (phase : Phase) (queue : List ℕ) (last : ℕ) (stack : List Saved) → StackFits layout phase queue stack → length stack ≡ 1 → list_any (λ saved. is_past_probes last saved.context saved.reason) stack ≡ false
+  pub none_past : (phase : Phase) (queue : List ℕ) (last : ℕ) (stack : List Saved) → StackFits layout phase queue stack → length stack ≡ 1 → list_any (λ saved. is_past_probes last saved.context saved.reason) stack ≡ false
   none_past phase queue last [] h l = refl
   none_past phase queue last (saved ∷ []) h l = let e = not_past phase last saved.context saved.reason h.0.context in rw e refl
   none_past phase queue last (saved ∷ next ∷ older) h l = absurd (omega arith)

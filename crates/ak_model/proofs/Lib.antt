@@ -9,6 +9,9 @@ pub mod Cuts
 pub mod Prefixes
 pub mod Answered
 pub mod Decoding
+pub mod Agreeing
+pub mod OneRow
+pub mod BothWays
 pub mod TurnRuns
 pub mod Walks
 pub mod TurnFacts
@@ -27,6 +30,7 @@ pub mod Queues
 pub mod Losses
 pub mod Strong
 pub mod Cycling
+pub mod StaysInside
 pub mod KernelRows
 pub mod MoreRows
 pub mod Clusters
@@ -46,6 +50,18 @@ pub mod NoStop
 pub mod BlamedTurns
 pub mod BlamedTrace
 pub mod LostSome
+pub mod RunEnds
+pub mod ClusterPages
+pub mod LeftTurns
+pub mod WasMapped
+pub mod Did
+pub mod StopsAt
+pub mod LastFault
+pub mod KeptTrace
+pub mod OpenSince
+pub mod ToldTrace
+pub mod MovesAt
+pub mod BlamedMove
 pub mod Unbroken
 pub mod ProgramPages
 pub mod SoundRows
@@ -56,3 +72,20 @@ pub mod FlagRows
 pub mod SoundCases
 pub mod Unkept
 pub mod EventsTaken
+pub mod Stays
+pub mod Completed
+pub mod TurnMoments
+pub mod StopsShown
+pub mod UnbrokenTape
+pub mod ReachedIn
+pub mod FirstOuts
+pub mod LargestSizes
+pub mod MissRuns
+pub mod IdealMisses
+pub mod KernelLawRows
+pub mod FewMisses
+pub mod QueuesFit
+pub mod ClusterSizes
+pub mod MissRows
+mod WalkRows
+pub mod SoundMisses

@@ -80,7 +80,7 @@ module _ (layout : Layout) where
         let same : (p == p) ≡ true = eq-eqb p p refl in
         rw (held_is, same) refl
 
-    resident_walks : (kind : Kind) → permits layout p kind ≡ true → walkable layout [] p kind ≡ true
+    pub resident_walks : (kind : Kind) → permits layout p kind ≡ true → walkable layout [] p kind ≡ true
     resident_walks kind h =
         subst (λ (entry : Mapping). (permits layout p kind && (flags_allow entry.flags kind && is_in_frame layout [] p entry.frame)) ≡ true) (sym entry_is)
         (and_from (permits layout p kind) (flags_allow (strong_flags (perm_of layout p)) kind && is_in_frame layout [] p (8 + p)) h

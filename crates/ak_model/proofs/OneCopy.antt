@@ -76,7 +76,7 @@ module _ (layout : Layout) where
 
   -- ---- What an answer says of the change
 
-  abbrev Fair : History → Change → Type 0
+  abbrev pub Fair : History → Change → Type 0
   Fair past (Loads f k p va i blocked) = (held layout past f ≡ FreeFrame) × (slot layout past va i ≡ Some k) × (discarded past k ≡ false) × (page_of layout past k ≡ p)
   Fair past (WritesOut f va i k) = ((q : ℕ) × (held layout past f ≡ PageFrame q)) × (k ≡ given layout past)
   Fair past (MakesVa f) = held layout past f ≡ FreeFrame
@@ -93,7 +93,7 @@ module _ (layout : Layout) where
   free_if VaFrame h = absurd (cc)
   free_if (PageFrame p) h = absurd (cc)
 
-  frame_ok : (f : ℕ) (a z : Answer) → (NotEpc ≡ z → ⊥) → (IsSecs ≡ z → ⊥) → if_frame layout f a ≡ z → a ≡ z
+  pub frame_ok : (f : ℕ) (a z : Answer) → (NotEpc ≡ z → ⊥) → (IsSecs ≡ z → ⊥) → if_frame layout f a ≡ z → a ≡ z
   frame_ok f a z n s h = (other (f == 0) IsSecs a z s (other (not (nat_lt f layout.frames)) NotEpc _ z n h).1).1
 
   live_kept : (past : History) (k : ℕ) → live layout past k ≡ true → (k < given layout past) × (discarded past k ≡ false)
@@ -111,7 +111,7 @@ module _ (layout : Layout) where
           (ap Some (eqb-true j k a.0), eqb-true (page_of layout past k) p a.1)
       both false e h = absurd (cc)
 
-  load_fair : (past : History) (f k p va i : ℕ) (blocked : Bool) → load_answer layout past f k p va i ≡ Ok → Fair past (Loads f k p va i blocked)
+  pub load_fair : (past : History) (f k p va i : ℕ) (blocked : Bool) → load_answer layout past f k p va i ≡ Ok → Fair past (Loads f k p va i blocked)
   load_fair past f k p va i blocked h =
       let a = frame_ok f _ Ok (λ e. cc) (λ e. cc) h in
       let b = other (not (is_free (held layout past f))) InUse _ Ok (λ e. cc) a in
@@ -121,7 +121,7 @@ module _ (layout : Layout) where
       let l = live_kept past k (not-false (live layout past k) d.0) in
       (free_if (held layout past f) (not-false (is_free (held layout past f)) b.0), m.0, l.1, m.1)
 
-  page_if : (frame : Held) (a : Answer) (k : Handle) → if_page frame a ≡ OkHandle k → ((q : ℕ) × (frame ≡ PageFrame q)) × (a ≡ OkHandle k)
+  pub page_if : (frame : Held) (a : Answer) (k : Handle) → if_page frame a ≡ OkHandle k → ((q : ℕ) × (frame ≡ PageFrame q)) × (a ≡ OkHandle k)
   page_if FreeFrame a k h = absurd (cc)
   page_if SecsFrame a k h = absurd (cc)
   page_if VaFrame a k h = absurd (cc)
@@ -138,7 +138,7 @@ module _ (layout : Layout) where
       let same : (let next : Handle = record { 0 = given layout past } in next) ≡ k = cc in
       (b.0, sym (ap (λ x. x.0) same))
 
-  va_fair : (past : History) (f : ℕ) → va_answer layout past f ≡ Ok → held layout past f ≡ FreeFrame
+  pub va_fair : (past : History) (f : ℕ) → va_answer layout past f ≡ Ok → held layout past f ≡ FreeFrame
   va_fair past f h = freed (is_free (held layout past f)) refl (frame_ok f _ Ok (λ e. cc) (λ e. cc) h)
     where
       freed : (b : Bool) → is_free (held layout past f) ≡ b → (if b then Ok else InUse) ≡ Ok → held layout past f ≡ FreeFrame

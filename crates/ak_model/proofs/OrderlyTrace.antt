@@ -38,7 +38,8 @@ module _ (layout : Layout) where
   misses_of : List ProgramTurn → List ℕ
   misses_of older = filter_map (λ turn. missed_by turn.event) older
 
-  more_by : (lp : ℕ) (past : History) (count : ℕ) (event : Option Event) (older : List ProgramTurn) → queue_by layout (record { lp = lp; past = past; count = count; event = event } ∷ older) ≡ after_event layout (queue_by layout older) event
+  -- one more turn with this event
+  pub more_by : (lp : ℕ) (past : History) (count : ℕ) (event : Option Event) (older : List ProgramTurn) → queue_by layout (record { lp = lp; past = past; count = count; event = event } ∷ older) ≡ after_event layout (queue_by layout older) event
   unfolding misses_of
   more_by lp past count None older = refl
   more_by lp past count (Some (Call i b a)) older = refl

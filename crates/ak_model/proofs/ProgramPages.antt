@@ -13,7 +13,8 @@ use Rattle.ak_core.specs.declared.instruction.Decoded.{Decoded}
 use Rattle.ak_core.specs.declared.instruction.Decoded.TheVariants.{Whole, NeedMore, Illegal}
 use Rattle.ak_model.specs.Pages.{pages}
 use Rattle.ak_model.specs.Instructions.{Plan, Traps, Computes, Reads, Writes, CallsOut, plan, divide, reg_of, with_reg, rax, rcx, rdx, rsi, rdi}
-use Rattle.ak_model.specs.Flat.{Flat, line_of, Vector, page_at, is_program, operand_touches, if_operand, carry_out, straddling, in_first_page, line, decode, rest_of_page, page_bytes}
+use Rattle.ak_model.specs.Encodings.{decode}
+use Rattle.ak_model.specs.Flat.{Flat, line_of, Vector, page_at, is_program, operand_touches, if_operand, carry_out, straddling, in_first_page, line, rest_of_page, page_bytes}
 
 -- an operand has a byte
 abbrev HasByte : Plan → Type 0
@@ -101,8 +102,8 @@ module _ (layout : Layout) where
   straddling_low flat touches NeedMore h = h
   straddling_low flat touches Illegal h = h
 
-  more_by : (flat : Flat) (p : ℕ) (b : Bool) → nat_lt (suc p) (pages layout) ≡ b → p < pages layout → AllLow (if b then straddling layout flat (touch p Exec ∷ touch (suc p) Exec ∷ []) (decode layout (rest_of_page layout flat p ++ page_bytes flat (suc p))) else line_of (touch p Exec ∷ []) (Vector 13)).touches
-  more_by flat p true e l = straddling_low flat _ (decode layout (rest_of_page layout flat p ++ page_bytes flat (suc p))) (l, (ltb-true (suc p) (pages layout) e, tt))
+  more_by : (flat : Flat) (p : ℕ) (b : Bool) → nat_lt (suc p) (pages layout) ≡ b → p < pages layout → AllLow (if b then straddling layout flat (touch p Exec ∷ touch (suc p) Exec ∷ []) (decode (rest_of_page layout flat p ++ page_bytes flat (suc p))) else line_of (touch p Exec ∷ []) (Vector 13)).touches
+  more_by flat p true e l = straddling_low flat _ (decode (rest_of_page layout flat p ++ page_bytes flat (suc p))) (l, (ltb-true (suc p) (pages layout) e, tt))
   more_by flat p false e l = (l, tt)
 
   first_low : (flat : Flat) (p : ℕ) (d : Decoded) → p < pages layout → AllLow (in_first_page layout flat p d).touches
@@ -110,8 +111,8 @@ module _ (layout : Layout) where
   first_low flat p Illegal l = (l, tt)
   first_low flat p NeedMore l = more_by flat p (nat_lt (suc p) (pages layout)) refl l
 
-  line_by : (flat : Flat) (b : Bool) → is_program layout flat.regs.rip 1 ≡ b → AllLow (if b then in_first_page layout flat (page_at layout flat.regs.rip) (decode layout (rest_of_page layout flat (page_at layout flat.regs.rip))) else line_of [] (Vector 13)).touches
-  line_by flat true e = first_low flat (page_at layout flat.regs.rip) (decode layout (rest_of_page layout flat (page_at layout flat.regs.rip))) (program_page flat.regs.rip 1 flat.regs.rip e (omega arith) (omega arith))
+  line_by : (flat : Flat) (b : Bool) → is_program layout flat.regs.rip 1 ≡ b → AllLow (if b then in_first_page layout flat (page_at layout flat.regs.rip) (decode (rest_of_page layout flat (page_at layout flat.regs.rip))) else line_of [] (Vector 13)).touches
+  line_by flat true e = first_low flat (page_at layout flat.regs.rip) (decode (rest_of_page layout flat (page_at layout flat.regs.rip))) (program_page flat.regs.rip 1 flat.regs.rip e (omega arith) (omega arith))
   line_by flat false e = tt
 
   -- each access of an instruction is of a page of the program

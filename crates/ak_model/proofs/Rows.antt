@@ -125,3 +125,8 @@ entry_walks : Holds image_a []
     ((setpte 1 2 none, Ok) ∷ (eenter 0 0, TcsFault) ∷ (setpte 1 2 pad, Ok) ∷ (setpte 2 3 pad, Ok) ∷ (eenter 0 0, SsaFault)
     ∷ (setpte 2 3 pwad, Ok) ∷ (eresume 0, Gp) ∷ (eenter 0 0, Ok) ∷ [])
 entry_walks = refl
+
+-- a cycle that began before the block does not count for it
+cycle_before : Holds image_a []
+    ((eldu 8 0 0 1 0, Ok) ∷ (Etrack, Ok) ∷ (eblock 8, Ok) ∷ (ewb 8 1 0, NotTracked) ∷ (Etrack, Ok) ∷ (ewb 8 1 0, sealed 1) ∷ [])
+cycle_before = refl

@@ -33,7 +33,7 @@ code_served =
     ∷ (eenter 0 0, Ok) ∷ (run 0 1000, ex Exit.Ready) ∷ (eresume 0, Ok) ∷ []
 
 -- and then the two others
-unfoldable over : Journal
+unfoldable pub over : Journal
 over = journal_of (code_served ++ (run 0 1000, pf) ∷ (eenter 0 0, Ok) ∷ (run 0 1000, ex (Exit.Ask 0 1)) ∷ (eldu 9 1 1 1 1, Ok) ∷ (setpte 1 9 pwad, Ok)
     ∷ (eenter 0 0, Ok) ∷ (run 0 1000, ex Exit.Ready) ∷ (eresume 0, Ok) ∷ (run 0 1000, pf) ∷ (eenter 0 0, Ok) ∷ (run 0 1000, ex (Exit.Ask 0 2)) ∷ (eldu 10 2 2 1 2, Ok) ∷ (setpte 2 10 pwad, Ok)
     ∷ (eenter 0 0, Ok) ∷ (run 0 1000, ex Exit.Ready) ∷ (eresume 0, Ok) ∷ (run 0 1000, ex (Exit.Call 1 18446744069414584320)) ∷ (eenter 0 0, Ok) ∷ (run 0 1000, ex (Exit.Ended 0)) ∷ [])
@@ -55,7 +55,7 @@ over_completes (suc (suc (suc (suc (suc (suc (suc (suc (suc (suc i)))))))))) h =
 
 -- nine turns complete, then two miss by the second and by the third access of one instruction, then one completes and one
 -- misses by its first
-over_sound : Sound bytes_f image_f over
+pub over_sound : Sound bytes_f image_f over
 unfolding image_f bytes_f over
 over_sound = record {
   outputs = record { shown = refl; flat = ([], refl) };
@@ -162,17 +162,17 @@ skipped_not h =
 -- ---- A store that is not permitted
 
 -- into the page of the program itself
-unfoldable store : List ℕ
+unfoldable pub store : List ℕ
 unfolding filled
 store = filled (0x48 ∷ 0x89 ∷ 0x83 ∷ 0x00 ∷ 0x01 ∷ 0x00 ∷ 0x10 ∷ [])
 
-unfoldable denied : Journal
+unfoldable pub denied : Journal
 denied = journal_of ((eenter 0 0, Ok) ∷ (run 0 1000, pf) ∷ (eenter 0 0, Ok) ∷ (run 0 1000, ex (Exit.Ask 0 0)) ∷ (eldu 8 0 0 1 0, Ok) ∷ (setpte 0 8 pxad, Ok)
     ∷ (eenter 0 0, Ok) ∷ (run 0 1000, ex Exit.Ready) ∷ (eresume 0, Ok) ∷ (run 0 1000, pf) ∷ (eenter 0 0, Ok) ∷ (run 0 1000, ex (Exit.Trapped 14)) ∷ [])
     [] (Miss 0 0 ∷ Trap 0 14 ∷ []) None
 
 -- one turn traps, and one misses
-denied_sound : Sound store image_a denied
+pub denied_sound : Sound store image_a denied
 unfolding denied store filled
 denied_sound = record {
   outputs = record { shown = refl; flat = ([], refl) };

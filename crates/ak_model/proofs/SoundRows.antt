@@ -25,7 +25,7 @@ journal_of row outputs events stop =
 
 -- ---- The program of two calls, its one miss served
 
-unfoldable served : Journal
+unfoldable pub served : Journal
 served = journal_of ((eenter 0 0, Ok) ∷ (run 0 1000, pf) ∷ (eenter 0 0, Ok) ∷ (run 0 1000, ex (Exit.Ask 0 0)) ∷ (eldu 8 0 0 1 0, Ok) ∷ (setpte 0 8 pxad, Ok)
     ∷ (eenter 0 0, Ok) ∷ (run 0 1000, ex Exit.Ready) ∷ (eresume 0, Ok) ∷ (run 0 1000, ex (Exit.Call 1 7)) ∷ (eenter 0 0, Ok) ∷ (run 0 1000, ex (Exit.Ended 0)) ∷ [])
     (7 ∷ []) (Miss 0 0 ∷ Call 3 1 7 ∷ Call 7 0 0 ∷ []) None
@@ -43,7 +43,7 @@ each_completes (suc (suc (suc (suc (suc (suc (suc zero))))))) h = refl
 each_completes (suc (suc (suc (suc (suc (suc (suc (suc i)))))))) h = absurd (omega arith)
 
 -- of its nine turns the oldest misses, and the others complete
-served_sound : Sound bytes_a image_a served
+pub served_sound : Sound bytes_a image_a served
 unfolding served bytes_a code_a filled
 served_sound = record {
   outputs = record { shown = refl; flat = ([], refl) };

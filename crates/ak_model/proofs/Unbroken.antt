@@ -27,7 +27,7 @@ in_by test x c later true e h here go = subst (λ y. test y ≡ true) (eqb-true 
 in_by test x c later false e h here go = go h
 
 -- what holds of each cluster of a queue holds of one that is in it
-all_in : (test : ℕ → Bool) (queue : List ℕ) (c : ℕ) → list_all test queue ≡ true → is_in queue c ≡ true → test c ≡ true
+pub all_in : (test : ℕ → Bool) (queue : List ℕ) (c : ℕ) → list_all test queue ≡ true → is_in queue c ≡ true → test c ≡ true
 all_in test [] c h e = absurd (cc)
 all_in test (x ∷ queue) c h e =
     let parts = and_parts (test x) (list_all test queue) h in
@@ -40,7 +40,7 @@ kept_by test keep a p rest false true e k h all go = go (eqb-false a p e) (and_p
 kept_by test keep a p rest false false e k h all go = go (eqb-false a p e) all
 
 -- what holds of each number that is kept of a range holds of one
-all_kept : (test keep : ℕ → Bool) (n a p : ℕ) → a ≤ p → p < a + n → keep p ≡ true → list_all test (filter keep (range_with_len a n)) ≡ true → test p ≡ true
+pub all_kept : (test keep : ℕ → Bool) (n a p : ℕ) → a ≤ p → p < a + n → keep p ≡ true → list_all test (filter keep (range_with_len a n)) ≡ true → test p ≡ true
 all_kept test keep zero a p low high h all = absurd (omega arith)
 all_kept test keep (suc n) a p low high h all =
     kept_by test keep a p (filter keep (range_with_len (a + 1) n)) (a == p) (keep a) refl refl h all
@@ -65,7 +65,7 @@ in-walkable layout so_far past control t orderly program someone mapped low allo
 
 -- ---- Breaks
 
-next_low : (layout : Layout) (run : Option Run) → AllLow layout (touches_next layout run)
+pub next_low : (layout : Layout) (run : Option Run) → AllLow layout (touches_next layout run)
 next_low layout None = tt
 next_low layout (Some run) = line_low layout run.flat
 

@@ -1,6 +1,6 @@
 -- How the build leaves the enclave, and all that differs between its two kinds. A `Resident` build stands in until the
 -- runtime pages its enclave: each program page is in a frame and each cluster is in, steps of the runtime and entering
--- find their pages without a walk, the kernel's table has the program's pages alone, and the program has three instructions.
+-- find their pages without a walk, and the kernel's table has the program's pages alone.
 use Rattle.std.specs.Prelude.{ℕ, ◌+◌, ◌-◌, Bool, true, false, ◌&&◌, List, [], Option, None, nat_lt, ◌==◌, if◌then◌else◌}
 use Rattle.std.specs.Bool.{then_some}
 use Rattle.std.specs.List.{range_with_len}
@@ -10,7 +10,6 @@ use Rattle.ak_core.specs.declared.build.Build.TheVariants.{Resident, Sealed as S
 use Rattle.ak_core.specs.declared.page.Perm.TheVariants.{R, Rw, Rx}
 use Rattle.ak_model.specs.Pages.{pages, all_pages, tcs_page, code_page, perm_of, flags_for, strong_flags, no_flags}
 use Rattle.ak_model.specs.Holdings.{Held, FreeFrame, SecsFrame, VaFrame, PageFrame, Place, InFrame, Sealed, Gone, Mapping}
-use Rattle.ak_model.specs.Encodings.{Row, table, first_rows}
 
 -- ---- Frames
 
@@ -93,10 +92,3 @@ steps_walk SealedBuild = true
 abbrev pub entering_walks : Build → Bool
 entering_walks Resident = false
 entering_walks SealedBuild = true
-
--- ---- Instructions
-
--- the encodings that the program may have
-abbrev pub encodings : Build → List Row
-encodings Resident = first_rows
-encodings SealedBuild = table

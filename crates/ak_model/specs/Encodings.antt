@@ -137,10 +137,6 @@ table =
     ∷ enclu_row
     ∷ []
 
--- the three encodings that are served first
-abbrev pub first_rows : List Row
-first_rows = mov_row ∷ add_row ∷ enclu_row ∷ []
-
 -- bytes beside an encoding: they begin with it, they are a proper prefix of it, or they differ from it
 pub data Match : Type 0 where
   Fits : (fields : Fields) → Match
@@ -168,3 +164,7 @@ decoded_as Differs row others = others
 abbrev pub decode_by : List Row → List ℕ → Decoded
 decode_by [] bytes = Illegal
 decode_by (row ∷ rows) bytes = decoded_as (match_parts row.parts bytes no_fields) row (decode_by rows bytes)
+
+-- what bytes begin with
+abbrev pub decode : List ℕ → Decoded
+decode bytes = decode_by table bytes

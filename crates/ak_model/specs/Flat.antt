@@ -12,8 +12,7 @@ use Rattle.ak_core.specs.declared.instruction.Instr.{Instr}
 use Rattle.ak_core.specs.declared.instruction.Decoded.{Decoded}
 use Rattle.ak_core.specs.declared.instruction.Decoded.TheVariants.{Whole, NeedMore, Illegal}
 use Rattle.ak_model.specs.Pages.{pages, permits}
-use Rattle.ak_model.specs.Encodings.{decode_by}
-use Rattle.ak_model.specs.Build.{encodings}
+use Rattle.ak_model.specs.Encodings.{decode}
 use Rattle.ak_model.specs.Instructions.{Plan, Traps, Computes, Reads, Writes, CallsOut, plan, with_reg, rax, le_value}
 
 -- a flat state: registers, and 4096 bytes for each page of the program
@@ -84,10 +83,6 @@ abbrev pub perform : Layout → Flat → List Touch → Instr → ℕ → Line
 perform layout flat touches instr size =
     carry_out layout flat touches (plan instr (record flat.regs { rip = flat.regs.rip + size }))
 
--- what bytes begin with, by the encodings that the program may have
-abbrev pub decode : Layout → List ℕ → Decoded
-decode layout bytes = decode_by (encodings layout.build) bytes
-
 -- the instruction's bytes go on in the next page
 abbrev pub straddling : Layout → Flat → List Touch → Decoded → Line
 straddling layout flat touches (Whole instr size) = perform layout flat touches instr size
@@ -108,7 +103,7 @@ in_first_page layout flat p (Whole instr size) = perform layout flat (touch p Ex
 in_first_page layout flat p Illegal = line_of (touch p Exec ∷ []) (Vector 6)
 in_first_page layout flat p NeedMore =
     if nat_lt (suc p) (pages layout)
-    then straddling layout flat (touch p Exec ∷ touch (suc p) Exec ∷ []) (decode layout (rest_of_page layout flat p ++ page_bytes flat (suc p)))
+    then straddling layout flat (touch p Exec ∷ touch (suc p) Exec ∷ []) (decode (rest_of_page layout flat p ++ page_bytes flat (suc p)))
     else line_of (touch p Exec ∷ []) (Vector 13)
 
 -- what the next instruction does
@@ -116,7 +111,7 @@ abbrev pub line : Layout → Flat → Line
 line layout flat =
     let p = page_at layout flat.regs.rip in
     if is_program layout flat.regs.rip 1
-    then in_first_page layout flat p (decode layout (rest_of_page layout flat p))
+    then in_first_page layout flat p (decode (rest_of_page layout flat p))
     else line_of [] (Vector 13)
 
 -- the page's permission does not allow the access

@@ -1,5 +1,6 @@
 pub mod Pages
 pub mod Encodings
+pub mod Beginnings
 pub mod Holdings
 pub mod Build
 pub mod History
@@ -40,10 +41,14 @@ pub mod Blame
 pub mod Honours
 pub mod Evicts
 pub mod Ideal
+pub mod IdealMisses
 pub mod Repeats
 pub mod HonestKernel
 pub mod Blamed
+pub mod Stops
 pub mod Kept
 pub mod Misses
 pub mod Stopped
 pub mod Sound
+pub mod MissedClusters
+pub mod BlamedMove

@@ -9,8 +9,9 @@ ghost use Rattle.ak_core.specs.declared.moves.Move.{Move};
 ghost use Rattle.ak_core.specs.declared.moves.Exit.{Exit};
 ghost use Rattle.ak_core.specs.declared.instruction.Instr.{Instr};
 ghost use Rattle.ak_core.specs.declared.instruction.Decoded.TheVariants.{Whole};
+ghost use Rattle.ak_model.specs.Encodings.{decode};
 ghost use Rattle.ak_model.specs.Instructions.{HasRegisters};
-ghost use Rattle.ak_model.specs.Flat.{Flat, Run, decode, line, flat_run, is_forbidden};
+ghost use Rattle.ak_model.specs.Flat.{Flat, Run, line, flat_run, is_forbidden};
 ghost use Rattle.ak_model.specs.Premises.{all_but_last, IsLater, IsCounted};
 ghost use Rattle.ak_model.specs.Trace.{trace};
 ghost use Rattle.ak_model.specs.Answered.{AnswersAreTraced};
@@ -72,15 +73,14 @@ pub fn more_call_answers()
 
 /// Ten bytes tell what bytes begin with, and a whole instruction is among them.
 pub fn ten_bytes()
-    ensures enough { (layout : Layout.Layout) (bytes : List ℕ) → decode layout (take 10 bytes) ≡ decode layout bytes }
-    ensures whole { (layout : Layout.Layout) (bytes : List ℕ) (instr : Instr) (n : ℕ)
-        → decode layout bytes ≡ Whole instr n → n ≤ length bytes }
+    ensures enough { (bytes : List ℕ) → decode (take 10 bytes) ≡ decode bytes }
+    ensures whole { (bytes : List ℕ) (instr : Instr) (n : ℕ) → decode bytes ≡ Whole instr n → n ≤ length bytes }
+    ensures most { (bytes : List ℕ) (instr : Instr) (n : ℕ) → decode bytes ≡ Whole instr n → n ≤ 10 }
 {}
 
 /// Each register that a decoded instruction names is one of the sixteen.
 pub fn sixteen_registers()
-    ensures { (layout : Layout.Layout) (bytes : List ℕ) (instr : Instr) (n : ℕ)
-        → decode layout bytes ≡ Whole instr n → HasRegisters instr }
+    ensures { (bytes : List ℕ) (instr : Instr) (n : ℕ) → decode bytes ≡ Whole instr n → HasRegisters instr }
 {}
 
 /// Events that are not due yet change no turn of the program so far.

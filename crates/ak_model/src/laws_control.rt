@@ -1,6 +1,6 @@
 // Laws of the control state, for each kernel and each tape whose misses are of clusters that are out. Each is proved of every
 // valid layout, of either build.
-ghost use Rattle.std.specs.Prelude.{◌≡◌, ℕ, ◌<◌, Bool, List, ◌++◌, All, Some, None, true, nat_lt};
+ghost use Rattle.std.specs.Prelude.{◌≡◌, ℕ, ◌<◌, Bool, List, ◌++◌, All, Some, None, is_some, true, nat_lt};
 ghost use Rattle.ak_core.specs.Layout;
 ghost use Rattle.ak_core.specs.Layout.{IsValid};
 ghost use Rattle.ak_core.specs.Mem.{Touch};
@@ -25,6 +25,7 @@ ghost use Rattle.ak_model.specs.StepRows.{IsInRow};
 ghost use Rattle.ak_model.specs.Presence.{IsPresent};
 ghost use Rattle.ak_model.specs.Counted.{CountsRight};
 ghost use Rattle.ak_model.specs.Blamed.{BlameStandsAt};
+ghost use Rattle.ak_model.specs.Stops.{shows_stop};
 ghost use Rattle.ak_model.specs.Orderly.{IsOrderly, TurnIsOrderly, after_turn, OrderlyAfter, KeepsLaws};
 
 /// The laws of the control state hold at each moment, with the misses of the program turns so far; each turn and each move
@@ -74,6 +75,13 @@ pub fn no_stop()
         → MissesFit layout (queue_at_build layout.build layout) tape
         → EachTurn (λ turn. λ older. BrokenBy layout runs turn older turn.event) (program_turns layout tape moves)
         → Honours layout tape moves → (trace layout tape moves).control.cause ≡ None }
+{}
+
+/// A processor leaves with the exit of a stopped enclave only where the stop has a cause.
+pub fn stop_has_cause()
+    ensures { (layout : Layout.Layout) (tape : List Event) (moves : List Move) → IsValid layout
+        → MissesFit layout (queue_at_build layout.build layout) tape
+        → shows_stop (trace layout tape moves).past ≡ true → is_some (trace layout tape moves).control.cause ≡ true }
 {}
 
 /// As long as the program may go on, the last page fault is the one that the newest refusal to resume tells of: a step faulted

@@ -11,7 +11,7 @@ ghost use Rattle.ak_model.specs.Pages.{pages, permits};
 ghost use Rattle.ak_model.specs.Holdings.{PageFrame, InFrame, Sealed};
 ghost use Rattle.ak_model.specs.History.{History, Unchanged, change};
 ghost use Rattle.ak_model.specs.Frames.{held};
-ghost use Rattle.ak_model.specs.Handles.{page_of, discarded, slot, place};
+ghost use Rattle.ak_model.specs.Handles.{page_of, discarded, live, slot, place};
 ghost use Rattle.ak_model.specs.Tracking.{cycles};
 ghost use Rattle.ak_model.specs.Waiting.{AllWait};
 ghost use Rattle.ak_model.specs.Walk.{walkable, touch_walkable};
@@ -30,13 +30,15 @@ pub fn refusals_change_nothing()
         → is_done a ≡ false → control_after layout past control m a ≡ control }
 {}
 
-/// A page is in a frame, or sealed, exactly where its place says so; a slot's handle that is not discarded is its page's
-/// newest copy, and no handle stands in two slots.
+/// A page is in a frame, or sealed, exactly where its place says so, and a sealed place names a handle that was given and not
+/// discarded; a slot's handle that is not discarded is its page's newest copy, and no handle stands in two slots.
 pub fn one_copy()
     ensures framed { (layout : Layout.Layout) (tape : List Event) (moves : List Move) (p f : ℕ)
         → (place layout (trace layout tape moves).past p ≡ InFrame f) ↔ (held layout (trace layout tape moves).past f ≡ PageFrame p) }
     ensures sealed { (layout : Layout.Layout) (tape : List Event) (moves : List Move) (p k : ℕ)
         → place layout (trace layout tape moves).past p ≡ Sealed k → page_of layout (trace layout tape moves).past k ≡ p }
+    ensures live { (layout : Layout.Layout) (tape : List Event) (moves : List Move) (p k : ℕ)
+        → place layout (trace layout tape moves).past p ≡ Sealed k → live layout (trace layout tape moves).past k ≡ true }
     ensures newest { (layout : Layout.Layout) (tape : List Event) (moves : List Move) (va i k : ℕ)
         → slot layout (trace layout tape moves).past va i ≡ Some k → discarded (trace layout tape moves).past k ≡ false
         → place layout (trace layout tape moves).past (page_of layout (trace layout tape moves).past k) ≡ Sealed k }

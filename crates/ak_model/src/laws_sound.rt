@@ -1,15 +1,17 @@
 // Laws over sound journals. Each is proved of every layout, of either build.
-ghost use Rattle.std.specs.Prelude.{ℕ, List, ◌++◌};
+ghost use Rattle.std.specs.Prelude.{ℕ, ◌≤◌, List, ◌++◌, length};
 ghost use Rattle.ak_core.specs.Layout;
 ghost use Rattle.ak_core.specs.Journal;
 ghost use Rattle.ak_model.specs.Build.{queue_at_build};
 ghost use Rattle.ak_model.specs.Flat.{flat_run};
-ghost use Rattle.ak_model.specs.Premises.{MissesFit};
-ghost use Rattle.ak_model.specs.Ends.{ended_at};
+ghost use Rattle.ak_model.specs.Premises.{MissesFit, misses_at};
+ghost use Rattle.ak_model.specs.Ends.{ended_at, runs_of};
 ghost use Rattle.ak_model.specs.Events.{EventsAreFlat};
-ghost use Rattle.ak_model.specs.Forced.{EachTurn, turns_of, BreaksAreForced};
+ghost use Rattle.ak_model.specs.Forced.{EachTurn, queue_by, turns_of, BreaksAreForced};
 ghost use Rattle.ak_model.specs.Misses.{MissedBy, MissesAreForced};
 ghost use Rattle.ak_model.specs.Stopped.{BrokenUnkeptBy, BreaksAreForcedUnkept};
+ghost use Rattle.ak_model.specs.Ideal.{touches_of};
+ghost use Rattle.ak_model.specs.Orderly.{IsDistinct, QueueFits};
 ghost use Rattle.ak_model.specs.Sound.{Sound};
 
 /// The breaks of a sound journal are forced also where no translation is kept.
@@ -35,4 +37,24 @@ pub fn misses_and_breaks_stay_forced()
 pub fn sound_misses_fit()
     ensures { (image : List ℕ) (layout : Layout.Layout) (journal : Journal.Journal)
         → Layout.IsValid layout → Sound image layout journal → MissesFit layout (queue_at_build layout.build layout) journal.events }
+{}
+
+/// At each turn of the program in a sound journal of a valid layout, the clusters that are in by the misses before it are
+/// different ones of the layout, and in a sealed build they fit the budget together.
+pub fn sound_queue_fits()
+    ensures { (image : List ℕ) (layout : Layout.Layout) (journal : Journal.Journal)
+        → Layout.IsValid layout → Sound image layout journal
+        → EachTurn (λ turn. λ older. QueueFits layout (queue_by layout older)) (turns_of layout journal) }
+{}
+
+/// An instruction of a sound journal of a valid layout misses four clusters at most: none twice, and no more than it makes
+/// accesses before the first forbidden one.
+pub fn few_misses()
+    ensures four { (image : List ℕ) (layout : Layout.Layout) (journal : Journal.Journal) (i : ℕ)
+        → Layout.IsValid layout → Sound image layout journal → length (misses_at journal.events i) ≤ 4 }
+    ensures once { (image : List ℕ) (layout : Layout.Layout) (journal : Journal.Journal) (i : ℕ)
+        → Layout.IsValid layout → Sound image layout journal → IsDistinct (misses_at journal.events i) }
+    ensures accesses { (image : List ℕ) (layout : Layout.Layout) (journal : Journal.Journal) (i : ℕ)
+        → Layout.IsValid layout → Sound image layout journal
+        → length (misses_at journal.events i) ≤ length (touches_of layout (runs_of layout image journal i)) }
 {}

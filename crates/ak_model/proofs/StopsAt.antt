@@ -1,0 +1,115 @@
+-- The move in which the enclave stopped: before it there was no cause, and the cause stays. What the cause says of the control
+-- state before that move.
+use Rattle.std.proofs.Common.{◌≡◌, ◌<◌, List, [], ◌∷◌, ◌++◌, length, arith, refl, ap, sym, ◌∙◌, subst}
+use Rattle.std.specs.Prelude.{true, false, if◌then◌else◌, Option, Some, None, is_some}
+use Rattle.ak_core.specs.Layout.{Layout, IsValid}
+use Rattle.ak_core.specs.declared.event.Event.{Event}
+use Rattle.ak_core.specs.declared.event.StopCause.TheVariants.{Unmapped, RuntimeUnmapped, FetchNotHonoured, ResumedEarly, Stuck}
+use Rattle.ak_core.specs.declared.moves.Move.{Move}
+use Rattle.ak_model.specs.Build.{queue_at_build}
+use Rattle.ak_model.specs.History.{History, Change}
+use Rattle.ak_model.specs.Inside.{someone_inside}
+use Rattle.ak_model.specs.Control.{Context, Cause, Broken, Named, Control, is_asked}
+use Rattle.ak_model.specs.Entering.{interrupted_by}
+use Rattle.ak_model.specs.Trace.{trace}
+use Rattle.ak_model.specs.ProgramTurns.{program_turns}
+use Rattle.ak_model.specs.Premises.{MissesFit}
+use Rattle.ak_model.specs.Stopped.{past_unless, before_stop}
+use Rattle.ak_model.specs.Blamed.{newest_refusal}
+use Rattle.ak_model.specs.BlamedMove.{changed, before_stopping}
+use Rattle.ak_model.proofs.Placed.{placed}
+use Rattle.ak_model.proofs.ValidClusters.{clusters_fit}
+use Rattle.ak_model.proofs.Orderly.{trace_is_orderly}
+use Rattle.ak_model.proofs.RunEnds.{Since}
+use Rattle.ak_model.proofs.LeftTurns.{StopBy}
+use Rattle.ak_model.proofs.Did.{Did, Quietly, Entered, Resumed, Interrupted, Went, Exited, did}
+
+module _ (layout : Layout) (past : History) (control : Control) where
+  interrupted_cause : (now : Option Context) → (interrupted_by control now).cause ≡ control.cause
+  interrupted_cause None = refl
+  interrupted_cause (Some context) = refl
+
+  -- the cause stays
+  cause_later : (c : Change) (next : Control) (x : Cause) → Did layout past control c next → control.cause ≡ Some x → next.cause ≡ Some x
+  cause_later c next x (Quietly q n) e = ap (λ k. k.cause) n ∙ e
+  cause_later c next x (Entered lp v o f n) e = ap (λ k. k.cause) n ∙ e
+  cause_later c next x (Resumed lp saved rest o p s f n) e = ap (λ k. k.cause) n ∙ e
+  cause_later c next x (Interrupted lp f n) e = ap (λ k. k.cause) n ∙ interrupted_cause control.now ∙ e
+  cause_later c next x (Went f s) e = s.cause ∙ e
+  cause_later c next x (Exited lp exit f h) e = h.left.stays x (h.since.cause ∙ e)
+
+  -- ---- The move that stops the enclave
+
+  -- a processor was inside, and the control state says this of the cause
+  pub record StopSays (cause : Cause) : Type 0 where
+    pub someone : someone_inside layout past ≡ true
+    pub says : StopBy layout past control (Some cause)
+
+  same_says : (before : Control) (cause : Cause) → Since control before → StopBy layout past before (Some cause) → StopBy layout past control (Some cause)
+  same_says before Broken s h = (sym (ap newest_refusal s.stack) ∙ h.0, s.live h.1)
+  same_says before (Named (Unmapped p kind)) s h = h
+  same_says before (Named (RuntimeUnmapped p kind)) s h = (sym (ap newest_refusal s.stack) ∙ h.0, s.live h.1, h.2)
+  same_says before (Named (FetchNotHonoured p kind)) s h = (sym (ap newest_refusal s.stack) ∙ h.0, s.live h.1, h.2)
+  same_says before (Named ResumedEarly) s h = (ap is_asked (sym (s.asked h.0)) ∙ h.0, s.guard h.1)
+  same_says before (Named (Stuck p kind)) s h = h
+
+  not_both : (o : Option Cause) (x : Cause) → o ≡ None → o ≡ Some x → ⊥
+  not_both o x e f = let z : None ≡ Some x = sym e ∙ f in cc
+
+  stop_says : (c : Change) (next : Control) (x : Cause) → Did layout past control c next → control.cause ≡ None → next.cause ≡ Some x → StopSays x
+  stop_says c next x (Quietly q n) none e = absurd (not_both next.cause x (ap (λ k. k.cause) n ∙ none) e)
+  stop_says c next x (Entered lp v o f n) none e = absurd (not_both next.cause x (ap (λ k. k.cause) n ∙ none) e)
+  stop_says c next x (Resumed lp saved rest o p s f n) none e = absurd (not_both next.cause x (ap (λ k. k.cause) n ∙ none) e)
+  stop_says c next x (Interrupted lp f n) none e = absurd (not_both next.cause x (ap (λ k. k.cause) n ∙ interrupted_cause control.now ∙ none) e)
+  stop_says c next x (Went f s) none e = absurd (not_both next.cause x (s.cause ∙ none) e)
+  stop_says c next x (Exited lp exit f h) none e = record {
+    someone = h.someone;
+    says = same_says h.before x h.since (subst (StopBy layout past h.before) e (h.left.cause (h.since.cause ∙ none)));
+  }
+
+-- ---- Its place among the moves
+
+module _ (layout : Layout) (valid : IsValid layout) (tape : List Event) (misses : MissesFit layout (queue_at_build layout.build layout) tape) where
+  abbrev pub Of : List Move → Control
+  Of moves = (trace layout tape moves).control
+
+  pub did_next : (m : Move) (moves : List Move) → Did layout (trace layout tape moves).past (Of moves) (changed layout (trace layout tape moves) m) (Of (m ∷ moves))
+  did_next m moves =
+      did layout (clusters_fit layout valid) (program_turns layout tape moves) (trace layout tape moves) m (λ lp. placed layout lp tape moves) (trace_is_orderly layout valid tape misses moves)
+
+  -- the enclave stopped after these moves, for this cause
+  pub record StopsAfter (moves : List Move) (cause : Cause) (stopping : List Move) : Type 0 where
+    pub newer : List Move
+    pub stands : moves ≡ newer ++ stopping
+    pub fewer : length stopping < length moves
+    pub history : (trace layout tape stopping).past ≡ before_stop layout tape moves
+    pub says : StopSays layout (trace layout tape stopping).past (Of stopping) cause
+
+  -- an earlier move stopped it, or this one did
+  stops_by : (m : Move) (moves : List Move) (x : Cause) (earlier : Option Cause) → (Of moves).cause ≡ earlier → (Of (m ∷ moves)).cause ≡ Some x → ((Of moves).cause ≡ Some x → StopsAfter moves x (before_stopping layout tape moves)) → StopsAfter (m ∷ moves) x (before_stopping layout tape (m ∷ moves))
+  stops_by m moves x None e h go =
+      let test : is_some (Of moves).cause ≡ false = ap is_some e in
+      subst (λ b. StopsAfter (m ∷ moves) x (if b then before_stopping layout tape moves else moves)) (sym test)
+      (record {
+        newer = m ∷ [];
+        stands = refl;
+        fewer = omega arith;
+        history = sym (ap (λ b. past_unless b (before_stop layout tape moves) (trace layout tape moves).past) test);
+        says = stop_says layout (trace layout tape moves).past (Of moves) (changed layout (trace layout tape moves) m) (Of (m ∷ moves)) x (did_next m moves) e h;
+      })
+  stops_by m moves x (Some y) e h go =
+      let test : is_some (Of moves).cause ≡ true = ap is_some e in
+      let later : (Of (m ∷ moves)).cause ≡ Some y = cause_later layout (trace layout tape moves).past (Of moves) (changed layout (trace layout tape moves) m) (Of (m ∷ moves)) y (did_next m moves) e in
+      let before = go (e ∙ sym later ∙ h) in
+      subst (λ b. StopsAfter (m ∷ moves) x (if b then before_stopping layout tape moves else moves)) (sym test)
+      (record {
+        newer = m ∷ before.newer;
+        stands = ap (λ l. m ∷ l) before.stands;
+        fewer = let l = before.fewer in omega arith;
+        history = before.history ∙ sym (ap (λ b. past_unless b (before_stop layout tape moves) (trace layout tape moves).past) test);
+        says = before.says;
+      })
+
+  pub stops-after : (moves : List Move) (x : Cause) → (Of moves).cause ≡ Some x → StopsAfter moves x (before_stopping layout tape moves)
+  stops-after [] x h = absurd (cc)
+  stops-after (m ∷ moves) x h = stops_by m moves x (Of moves).cause refl h (stops-after moves x)

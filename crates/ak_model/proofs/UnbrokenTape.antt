@@ -1,0 +1,111 @@
+-- No break is on the tape of a sound journal under a kernel that keeps its rules.
+use Rattle.std.proofs.Common.{◌≡◌, List, [], ◌∷◌, reverse, refl, ap, subst}
+use Rattle.std.specs.Prelude.{ℕ, Bool, true, false, Option, Some, None, is_some}
+use Rattle.std.proofs.lemmas.Bool.{ltb-true, or_from}
+use Rattle.ak_core.specs.Layout.{Layout, IsValid}
+use Rattle.ak_core.specs.Journal.{Journal}
+use Rattle.ak_core.specs.declared.event.Event.{Event}
+use Rattle.ak_core.specs.declared.event.Event.TheVariants.{Call, Miss, Trap, Break}
+use Rattle.ak_core.specs.declared.moves.Move.{Move}
+use Rattle.ak_model.specs.Build.{queue_at_build}
+use Rattle.ak_model.specs.History.{History}
+use Rattle.ak_model.specs.Control.{Control, Cause}
+use Rattle.ak_model.specs.Trace.{trace}
+use Rattle.ak_model.specs.ProgramTurns.{ProgramTurn, turn_at, program_turns}
+use Rattle.ak_model.specs.Ends.{Runs, ended_at, runs_of}
+use Rattle.ak_model.specs.Forced.{EachTurn, BreakIsForced, BrokenBy, turns_of}
+use Rattle.ak_model.specs.Premises.{MissesFit}
+use Rattle.ak_model.specs.Honours.{keeps_mapped, Honours}
+use Rattle.ak_model.specs.Blamed.{is_break}
+use Rattle.ak_model.specs.Stops.{has_break, shows_stop}
+use Rattle.ak_model.specs.Stopped.{IsStop, before_stop}
+use Rattle.ak_model.specs.Sound.{Sound}
+use Rattle.ak_model.proofs.Placed.{placed}
+use Rattle.ak_model.proofs.Someone.{is_someone}
+use Rattle.ak_model.proofs.TurnFacts.{each-from_both}
+use Rattle.ak_model.proofs.EventsTaken.{with_event, taken, trace-taken, misses-fit}
+use Rattle.ak_model.proofs.NoStop.{no_stop}
+use Rattle.ak_model.proofs.Unbroken.{not-broken}
+use Rattle.ak_model.proofs.Unkept.{each-broken-without}
+use Rattle.ak_model.proofs.StopsShown.{stop-has_cause}
+use Rattle.ak_model.proofs.TurnMoments.{StandsAt, turns-each}
+
+-- ---- On the tape
+
+one_unbroken : (event : Option Event) (rest : List Event) → is_break event ≡ false → has_break rest ≡ false → has_break (with_event event rest) ≡ false
+one_unbroken None rest e h = h
+one_unbroken (Some event) rest e h = or_from (is_break (Some event)) (has_break rest) e h
+
+-- the events of turns of which none breaks, before others
+taken_unbroken : (turns : List ProgramTurn) (rest : List Event) → EachTurn (λ turn. λ older. is_break turn.event ≡ false) turns → has_break rest ≡ false → has_break (taken turns rest) ≡ false
+taken_unbroken [] rest h k = k
+taken_unbroken (turn ∷ older) rest h k = taken_unbroken older (with_event turn.event rest) h.1 (one_unbroken turn.event rest h.0 k)
+
+-- ---- Turns
+
+module _ (layout : Layout) (runs : Runs) where
+  not_by : (turn : ProgramTurn) (older : List ProgramTurn) (event : Option Event) → (BreakIsForced layout runs turn older → ⊥) → BrokenBy layout runs turn older event → is_break event ≡ false
+  not_by turn older None never h = refl
+  not_by turn older (Some (Call i b a)) never h = refl
+  not_by turn older (Some (Miss i c)) never h = refl
+  not_by turn older (Some (Trap i v)) never h = refl
+  not_by turn older (Some (Break i)) never h = absurd (never h)
+
+  module _ (valid : IsValid layout) (tape : List Event) (misses : MissesFit layout (queue_at_build layout.build layout) tape) where
+    never_forced : (moves : List Move) (lp : ℕ) (control : Control) (older : List ProgramTurn) → StandsAt layout tape (keeps_mapped layout) moves lp control older → BreakIsForced layout runs (turn_at lp (trace layout tape moves).past control) older → ⊥
+    never_forced moves lp control older at =
+        let past : History = (trace layout tape moves).past in
+        let someone = is_someone layout past lp (ltb-true lp layout.lps (placed layout lp tape moves at.within)) at.within in
+        not-broken layout runs older lp past control at.orderly at.program someone at.here
+
+    -- under the rules no turn of the program breaks, where each break is forced
+    pub turns-unbroken : (moves : List Move) → EachTurn (λ turn. λ older. BrokenBy layout runs turn older turn.event) (program_turns layout tape moves) → Honours layout tape moves → EachTurn (λ turn. λ older. is_break turn.event ≡ false) (program_turns layout tape moves)
+    turns-unbroken moves b h =
+        each-from_both (λ turn. λ older. BreakIsForced layout runs turn older → ⊥) (λ turn. λ older. BrokenBy layout runs turn older turn.event) (λ turn. λ older. is_break turn.event ≡ false)
+        (λ turn older never forced. not_by turn older turn.event never forced) (program_turns layout tape moves)
+        (turns-each layout tape (keeps_mapped layout) valid misses (λ turn. λ older. BreakIsForced layout runs turn older → ⊥) never_forced moves h.mapped) b
+
+-- ---- Journals
+
+module _ (image : List ℕ) (layout : Layout) (journal : Journal) (valid : IsValid layout) (sound : Sound image layout journal) where
+  -- all events of the journal are those of its turns
+  pub all-taken : taken (turns_of layout journal) [] ≡ journal.events
+  all-taken =
+      subst (λ rest. taken (turns_of layout journal) rest ≡ journal.events) sound.answers.taken
+      (trace-taken layout journal.events (reverse journal.moves))
+
+  pub sound-misses : MissesFit layout (queue_at_build layout.build layout) journal.events
+  sound-misses =
+      subst (MissesFit layout (queue_at_build layout.build layout)) all-taken
+      (misses-fit layout valid (runs_of layout image journal) (turns_of layout journal) [] sound.misses.turns_miss tt)
+
+  sound_breaks : EachTurn (λ turn. λ older. BrokenBy layout (runs_of layout image journal) turn older turn.event) (turns_of layout journal)
+  sound_breaks = each-broken-without layout (runs_of layout image journal) journal.stop (turns_of layout journal) sound.breaks.turns_break
+
+  module _ (kept : Honours layout journal.events (reverse journal.moves)) where
+    pub journal-unbroken : has_break journal.events ≡ false
+    journal-unbroken =
+        subst (λ events. has_break events ≡ false) all-taken
+        (taken_unbroken (turns_of layout journal) []
+        (turns-unbroken layout (runs_of layout image journal) valid journal.events sound-misses (reverse journal.moves) sound_breaks kept) refl)
+
+    no_cause : (ended_at layout journal).control.cause ≡ None
+    no_cause = no_stop layout (runs_of layout image journal) journal.events (reverse journal.moves) valid sound-misses sound_breaks kept
+
+    stop_by : (cause : Option Cause) → cause ≡ None → IsStop layout (before_stop layout journal.events (reverse journal.moves)) cause journal.stop → journal.stop ≡ None
+    stop_by None e h = h
+    stop_by (Some cause) e h = cc
+
+    pub journal-unstopped : journal.stop ≡ None
+    journal-unstopped = stop_by (ended_at layout journal).control.cause no_cause sound.stop.stopped
+
+    -- no processor left with the exit of a stopped enclave
+    pub journal-unshown : shows_stop (ended_at layout journal).past ≡ false
+    journal-unshown = by_shown (shows_stop (ended_at layout journal).past) refl
+      where
+        by_shown : (b : Bool) → shows_stop (ended_at layout journal).past ≡ b → b ≡ false
+        by_shown false e = refl
+        by_shown true e =
+            let some = stop-has_cause layout valid journal.events sound-misses (reverse journal.moves) e in
+            let none : is_some (ended_at layout journal).control.cause ≡ false = ap is_some no_cause in
+            cc
