@@ -1,4 +1,7 @@
 pub mod Windows
-pub mod FirstRows
 pub mod Lines
-pub mod Executed
+pub mod Reaching
+pub mod Paged
+pub mod Products
+pub mod Carrying
+pub mod InFour

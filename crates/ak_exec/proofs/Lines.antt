@@ -5,45 +5,45 @@ use Rattle.std.proofs.lemmas.Bool.{le-leb}
 use Rattle.std.proofs.lemmas.Bool.Decides.{nat_tests}
 use Rattle.ak_core.specs.Layout.{Layout}
 use Rattle.ak_core.specs.Mem.{Touch, touch}
-use Rattle.ak_core.specs.declared.build.Build.TheVariants.{Resident}
 use Rattle.ak_core.specs.declared.page.Kind.TheVariants.{Exec}
 use Rattle.ak_core.specs.declared.registers.Regs.{Regs}
 use Rattle.ak_core.specs.declared.instruction.Instr.{Instr}
 use Rattle.ak_core.specs.declared.instruction.Decoded.{Decoded}
 use Rattle.ak_core.specs.declared.instruction.Decoded.TheVariants.{Whole, NeedMore, Illegal}
 use Rattle.ak_model.specs.Pages.{pages}
-use Rattle.ak_model.specs.Encodings.{decode_by, first_rows}
+use Rattle.ak_model.specs.Encodings.{decode}
 use Rattle.ak_model.specs.Instructions.{Plan, Traps, Computes, Reads, Writes, CallsOut, plan}
-use Rattle.ak_model.specs.Flat.{Flat, End, Line, Next, Call, Vector, line, line_of, page_at, carry_out, perform, decode, straddling, in_first_page, page_bytes, rest_of_page}
+use Rattle.ak_model.specs.Flat.{Flat, End, Line, Next, Call, Vector, line, line_of, page_at, carry_out, perform, straddling, in_first_page, page_bytes, rest_of_page}
 use Rattle.ak_exec.specs.Turns.{Shows, Refuses, DoesLine, Performs}
 use Rattle.ak_exec.specs.declared.turn.Turn.{Turn}
+use Rattle.ak_exec.specs.Carried.{CarriesOut}
 use Rattle.ak_exec.specs.Fetches.{Finds, Crosses, found_in}
 use Rattle.ak_exec.specs.declared.fetching.Fetched.{Fetched}
 use Rattle.ak_exec.specs.declared.fetching.Fetched.TheVariants.{Found, Raised, Refused}
-use Rattle.ak_exec.proofs.FirstRows.{by_window, with_more, by_layout}
+use Rattle.ak_exec.proofs.Windows.{by_window, with_more}
 
 -- ---- Where RIP is in the program
 
-line-inside : (layout : Layout) (flat : Flat) → layout.base ≤ flat.regs.rip → flat.regs.rip - layout.base < 4096 * pages layout → line layout flat ≡ in_first_page layout flat (page_at layout flat.regs.rip) (decode layout (rest_of_page layout flat (page_at layout flat.regs.rip)))
+line-inside : (layout : Layout) (flat : Flat) → layout.base ≤ flat.regs.rip → flat.regs.rip - layout.base < 4096 * pages layout → line layout flat ≡ in_first_page layout flat (page_at layout flat.regs.rip) (decode (rest_of_page layout flat (page_at layout flat.regs.rip)))
 line-inside layout flat low high =
     let a : nat_le layout.base flat.regs.rip ≡ true = le-leb _ _ low in
     let b : nat_le (flat.regs.rip + 1) (layout.base + 4096 * pages layout) ≡ true = le-leb _ _ (omega arith) in
     rw (a, b) refl
 
 -- the line, by what is decoded of the first page from this RIP on
-line-at : (layout : Layout) (flat : Flat) (rip base : ℕ) (d : Decoded) → base ≡ layout.base → flat.regs.rip ≡ rip → base ≤ rip → rip - base < 4096 * pages layout → d ≡ decode layout (drop ((rip - base) % 4096) (page_bytes flat ((rip - base) / 4096))) → line layout flat ≡ in_first_page layout flat ((rip - base) / 4096) d
+line-at : (layout : Layout) (flat : Flat) (rip base : ℕ) (d : Decoded) → base ≡ layout.base → flat.regs.rip ≡ rip → base ≤ rip → rip - base < 4096 * pages layout → d ≡ decode (drop ((rip - base) % 4096) (page_bytes flat ((rip - base) / 4096))) → line layout flat ≡ in_first_page layout flat ((rip - base) / 4096) d
 line-at layout flat rip base d b r low high e =
     let far : flat.regs.rip - layout.base ≡ rip - base = omega arith in
     line-inside layout flat (omega arith) (omega arith)
-    ∙ ap (λ n. in_first_page layout flat (n / 4096) (decode layout (drop (n % 4096) (page_bytes flat (n / 4096))))) far
+    ∙ ap (λ n. in_first_page layout flat (n / 4096) (decode (drop (n % 4096) (page_bytes flat (n / 4096))))) far
     ∙ ap (in_first_page layout flat ((rip - base) / 4096)) (sym e)
 
 -- the line, by the window that was read of the first page
-pub first_line : (layout : Layout) (flat : Flat) (rip base : ℕ) (d : Decoded) (page window : List ℕ) → layout.build ≡ Resident → base ≡ layout.base → flat.regs.rip ≡ rip → base ≤ rip → rip - base < 4096 * pages layout → page ≡ page_bytes flat ((rip - base) / 4096) → window ≡ take 10 (drop ((rip - base) % 4096) page) → d ≡ decode_by first_rows window → line layout flat ≡ in_first_page layout flat ((rip - base) / 4096) d
-first_line layout flat rip base d page window served b r low high p w e =
+pub first_line : (layout : Layout) (flat : Flat) (rip base : ℕ) (d : Decoded) (page window : List ℕ) → base ≡ layout.base → flat.regs.rip ≡ rip → base ≤ rip → rip - base < 4096 * pages layout → page ≡ page_bytes flat ((rip - base) / 4096) → window ≡ take 10 (drop ((rip - base) % 4096) page) → d ≡ decode window → line layout flat ≡ in_first_page layout flat ((rip - base) / 4096) d
+first_line layout flat rip base d page window b r low high p w e =
     let offset = (rip - base) % 4096 in let n = (rip - base) / 4096 in
     line-at layout flat rip base d b r low high
-    (by_window window (drop offset page) d e w ∙ ap (λ xs. decode_by first_rows (drop offset xs)) p ∙ sym (by_layout layout (drop offset (page_bytes flat n)) served))
+    (by_window window (drop offset page) d e w ∙ ap (λ xs. decode (drop offset xs)) p)
 
 -- ---- Where the bytes of the first page are not enough
 
@@ -51,11 +51,11 @@ pub at_the_end : (layout : Layout) (flat : Flat) (p : ℕ) → pages layout ≤ 
 at_the_end layout flat p h =
     let no : nat_lt (suc p) (pages layout) ≡ false = grind (arith, nat_tests) in rw no refl
 
-going_on : (layout : Layout) (flat : Flat) (p : ℕ) → p + 1 < pages layout → in_first_page layout flat p NeedMore ≡ straddling layout flat (touch p Exec ∷ touch (p + 1) Exec ∷ []) (decode layout (rest_of_page layout flat p ++ page_bytes flat (p + 1)))
+going_on : (layout : Layout) (flat : Flat) (p : ℕ) → p + 1 < pages layout → in_first_page layout flat p NeedMore ≡ straddling layout flat (touch p Exec ∷ touch (p + 1) Exec ∷ []) (decode (rest_of_page layout flat p ++ page_bytes flat (p + 1)))
 going_on layout flat p h =
     let yes : nat_lt (suc p) (pages layout) ≡ true = grind (arith, nat_tests) in
     let next : suc p ≡ p + 1 = omega arith in
-    rw yes (ap (λ q. straddling layout flat (touch p Exec ∷ touch q Exec ∷ []) (decode layout (rest_of_page layout flat p ++ page_bytes flat q))) next)
+    rw yes (ap (λ q. straddling layout flat (touch p Exec ∷ touch q Exec ∷ []) (decode (rest_of_page layout flat p ++ page_bytes flat q))) next)
 
 -- ---- The accesses of a line begin with those of its fetch
 
@@ -101,7 +101,7 @@ refuses l front granted fault t g f more = record {
 pub first_refused : (layout : Layout) (flat : Flat) (rip base : ℕ) (granted : List Touch) (fault : Touch) → base ≡ layout.base → flat.regs.rip ≡ rip → base ≤ rip → rip - base < 4096 * pages layout → granted ≡ [] → fault ≡ touch ((rip - base) / 4096) Exec → Refuses (line layout flat) fault granted
 first_refused layout flat rip base granted fault b r low high g f =
     let p = (rip - base) / 4096 in
-    let d = decode layout (drop ((rip - base) % 4096) (page_bytes flat p)) in
+    let d = decode (drop ((rip - base) % 4096) (page_bytes flat p)) in
     refuses (line layout flat) [] granted fault (touch p Exec) g f
     (subst (λ l. Begins l.touches (touch p Exec ∷ [])) (sym (line-at layout flat rip base d b r low high refl)) (first_begins layout flat p d))
 
@@ -119,31 +119,31 @@ straddling_found layout flat touches NeedMore = refl
 straddling_found layout flat touches Illegal = refl
 
 -- what was found over both pages
-pub across : (layout : Layout) (flat : Flat) (p : ℕ) (result : Fetched) (bytes all : List ℕ) (holds : ℕ → Bool) (before after : List Touch) → line layout flat ≡ straddling layout flat (touch p Exec ∷ touch (p + 1) Exec ∷ []) (decode layout all) → (holds (p + 1) ≡ true → decode_by first_rows bytes ≡ decode layout all) → before ≡ touch p Exec ∷ [] → Crosses (touch (p + 1) Exec) bytes result holds before after → Finds layout flat result after
+pub across : (layout : Layout) (flat : Flat) (p : ℕ) (result : Fetched) (bytes all : List ℕ) (holds : ℕ → Bool) (before after : List Touch) → line layout flat ≡ straddling layout flat (touch p Exec ∷ touch (p + 1) Exec ∷ []) (decode all) → (holds (p + 1) ≡ true → decode bytes ≡ decode all) → before ≡ touch p Exec ∷ [] → Crosses (touch (p + 1) Exec) bytes result holds before after → Finds layout flat result after
 unfolding line_found
 across layout flat p (Found instr size) bytes all holds before after l d b h =
-    l ∙ straddling_found layout flat (touch p Exec ∷ touch (p + 1) Exec ∷ []) (decode layout all)
+    l ∙ straddling_found layout flat (touch p Exec ∷ touch (p + 1) Exec ∷ []) (decode all)
     ∙ ap (λ x. line_found layout flat (touch p Exec ∷ touch (p + 1) Exec ∷ []) (found_in x)) (sym (d h.held))
     ∙ ap (line_found layout flat (touch p Exec ∷ touch (p + 1) Exec ∷ [])) (sym h.decoded)
     ∙ ap (λ ts. perform layout flat ts instr size) (sym (h.granted ∙ ap (λ ts. ts ++ touch (p + 1) Exec ∷ []) b))
 across layout flat p (Raised vector) bytes all holds before after l d b h =
-    l ∙ straddling_found layout flat (touch p Exec ∷ touch (p + 1) Exec ∷ []) (decode layout all)
+    l ∙ straddling_found layout flat (touch p Exec ∷ touch (p + 1) Exec ∷ []) (decode all)
     ∙ ap (λ x. line_found layout flat (touch p Exec ∷ touch (p + 1) Exec ∷ []) (found_in x)) (sym (d h.held))
     ∙ ap (line_found layout flat (touch p Exec ∷ touch (p + 1) Exec ∷ [])) (sym h.decoded)
     ∙ ap (λ ts. line_of ts (Vector vector)) (sym (h.granted ∙ ap (λ ts. ts ++ touch (p + 1) Exec ∷ []) b))
 across layout flat p (Refused fault) bytes all holds before after l d b h =
     refuses (line layout flat) (touch p Exec ∷ []) after fault (touch (p + 1) Exec) (h.granted ∙ b) h.fault
-    (subst (λ x. Begins x.touches (touch p Exec ∷ touch (p + 1) Exec ∷ [])) (sym l) (straddling_begins layout flat (touch p Exec ∷ touch (p + 1) Exec ∷ []) (decode layout all)))
+    (subst (λ x. Begins x.touches (touch p Exec ∷ touch (p + 1) Exec ∷ [])) (sym l) (straddling_begins layout flat (touch p Exec ∷ touch (p + 1) Exec ∷ []) (decode all)))
 
 -- the line over both pages, by what was read of them
-pub next_line : (layout : Layout) (flat : Flat) (rip base : ℕ) (result : Fetched) (page window more : List ℕ) (holds : ℕ → Bool) (before after : List Touch) → layout.build ≡ Resident → base ≡ layout.base → flat.regs.rip ≡ rip → base ≤ rip → rip - base < 4096 * pages layout → (rip - base) / 4096 + 1 < pages layout → page ≡ page_bytes flat ((rip - base) / 4096) → window ≡ take 10 (drop ((rip - base) % 4096) page) → (holds ((rip - base) / 4096 + 1) ≡ true → more ≡ page_bytes flat ((rip - base) / 4096 + 1)) → NeedMore ≡ decode_by first_rows window → before ≡ touch ((rip - base) / 4096) Exec ∷ [] → Crosses (touch ((rip - base) / 4096 + 1) Exec) (window ++ more) result holds before after → Finds layout flat result after
-next_line layout flat rip base result page window more holds before after served b r low high next p w m e g h =
+pub next_line : (layout : Layout) (flat : Flat) (rip base : ℕ) (result : Fetched) (page window more : List ℕ) (holds : ℕ → Bool) (before after : List Touch) → base ≡ layout.base → flat.regs.rip ≡ rip → base ≤ rip → rip - base < 4096 * pages layout → (rip - base) / 4096 + 1 < pages layout → page ≡ page_bytes flat ((rip - base) / 4096) → window ≡ take 10 (drop ((rip - base) % 4096) page) → (holds ((rip - base) / 4096 + 1) ≡ true → more ≡ page_bytes flat ((rip - base) / 4096 + 1)) → NeedMore ≡ decode window → before ≡ touch ((rip - base) / 4096) Exec ∷ [] → Crosses (touch ((rip - base) / 4096 + 1) Exec) (window ++ more) result holds before after → Finds layout flat result after
+next_line layout flat rip base result page window more holds before after b r low high next p w m e g h =
     let n = (rip - base) / 4096 in let offset = (rip - base) % 4096 in
     let far : (flat.regs.rip - layout.base) % 4096 ≡ offset = omega arith in
     let rest : rest_of_page layout flat n ≡ drop offset page = ap (λ k. drop k (page_bytes flat n)) far ∙ ap (drop offset) (sym p) in
     across layout flat n result (window ++ more) (rest_of_page layout flat n ++ page_bytes flat (n + 1)) holds before after
-    (first_line layout flat rip base NeedMore page window served b r low high p w e ∙ going_on layout flat n next)
-    (λ held. with_more window (drop offset page) more w ∙ ap (λ xs. decode_by first_rows (drop offset page ++ xs)) (m held) ∙ ap (λ xs. decode_by first_rows (xs ++ page_bytes flat (n + 1))) (sym rest) ∙ sym (by_layout layout (rest_of_page layout flat n ++ page_bytes flat (n + 1)) served))
+    (first_line layout flat rip base NeedMore page window b r low high p w e ∙ going_on layout flat n next)
+    (λ held. with_more window (drop offset page) more w ∙ ap (λ xs. decode (drop offset page ++ xs)) (m held) ∙ ap (λ xs. decode (xs ++ page_bytes flat (n + 1))) (sym rest))
     g h
 
 -- ---- A plan that asks nothing of memory
@@ -162,8 +162,7 @@ carried_out layout flat touches (Reads address count regs) turn old new holds by
 carried_out layout flat touches (Writes address new_bytes regs) turn old new holds bytes s h = absurd h
 
 -- an instruction that was found is performed as its line says
-pub performed : (layout : Layout) (flat : Flat) (touches : List Touch) (instr : Instr) (size : ℕ) (turn : Turn) (old new : Regs) (holds : ℕ → Bool) (bytes : ℕ → List ℕ) → flat.regs ≡ old → Shows layout holds bytes flat → line layout flat ≡ perform layout flat touches instr size → Performs (plan instr (record old { rip = old.rip + size })) turn old new → DoesLine layout (line layout flat) turn new holds bytes touches
-performed layout flat touches instr size turn old new holds bytes e s l h =
-    subst (λ x. DoesLine layout x turn new holds bytes touches) (sym l)
-    (carried_out layout flat touches (plan instr (record flat.regs { rip = flat.regs.rip + size })) turn old new holds bytes s
-    (subst (λ (r : Regs). Performs (plan instr (record r { rip = r.rip + size })) turn old new) (sym e) h))
+pub performed : (layout : Layout) (flat : Flat) (before after : List Touch) (instr : Instr) (size : ℕ) (turn : Turn) (old new : Regs) (holds : ℕ → Bool) (bytes_old bytes_new : ℕ → List ℕ) → flat.regs ≡ old → Shows layout holds bytes_old flat → line layout flat ≡ perform layout flat before instr size → CarriesOut layout (plan instr (record old { rip = old.rip + size })) turn new holds bytes_old bytes_new before after → DoesLine layout (line layout flat) turn new holds bytes_new after
+performed layout flat before after instr size turn old new holds bytes_old bytes_new e s l h =
+    subst (λ x. DoesLine layout x turn new holds bytes_new after) (sym l)
+    (subst (λ (r : Regs). DoesLine layout (carry_out layout flat before (plan instr (record r { rip = r.rip + size }))) turn new holds bytes_new after) (sym e) (h flat s))

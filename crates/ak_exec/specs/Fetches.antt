@@ -5,9 +5,10 @@ use Rattle.ak_core.specs.Mem.{Touch}
 use Rattle.ak_core.specs.declared.page.Fault.{Fault}
 use Rattle.ak_core.specs.declared.instruction.Decoded.{Decoded}
 use Rattle.ak_core.specs.declared.instruction.Decoded.TheVariants.{Whole, NeedMore, Illegal}
-use Rattle.ak_model.specs.Encodings.{decode_by, first_rows}
+use Rattle.ak_model.specs.Encodings.{decode}
 use Rattle.ak_model.specs.Flat.{Flat, Vector, line, line_of, perform}
-use Rattle.ak_exec.specs.Turns.{Refuses, IsPlain, is_vector}
+use Rattle.ak_model.specs.Instructions.{HasRegisters}
+use Rattle.ak_exec.specs.Turns.{Refuses, is_vector}
 use Rattle.ak_exec.specs.declared.fetching.Fetched.{Fetched}
 use Rattle.ak_exec.specs.declared.fetching.Fetched.TheVariants.{Found, Raised, Refused}
 
@@ -23,9 +24,9 @@ refused_fetch (Found instr size) = None
 refused_fetch (Raised vector) = None
 refused_fetch (Refused fault) = Some fault
 
--- an instruction that was found asks nothing of memory and has ten bytes at most, and a vector is 0, 6 or 13
+-- an instruction that was found names registers that there are and has ten bytes at most, and a vector is 0, 6 or 13
 abbrev pub IsSound : Fetched → Type 0
-IsSound (Found instr size) = IsPlain instr × (size ≤ 10)
+IsSound (Found instr size) = HasRegisters instr × (size ≤ 10)
 IsSound (Raised vector) = IsTrue (is_vector vector)
 IsSound (Refused fault) = Unit {0}
 
@@ -45,7 +46,7 @@ found_in Illegal = Raised 6
 pub record Decodes (t : Touch) (bytes : List ℕ) (result : Fetched) (holds : ℕ → Bool) (before after : List Touch) : Type 0 where
   pub granted : after ≡ before ++ t ∷ []
   pub held : holds t.page.0 ≡ true
-  pub decoded : result ≡ found_in (decode_by first_rows bytes)
+  pub decoded : result ≡ found_in (decode bytes)
 
 -- the access was refused
 pub record IsRefused (t : Touch) (f : Fault) (before after : List Touch) : Type 0 where

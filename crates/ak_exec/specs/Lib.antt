@@ -1,2 +1,6 @@
 pub mod Turns
 pub mod Fetches
+pub mod Accessed
+pub mod Plain
+pub mod Carried
+pub mod FourPages

@@ -4,8 +4,6 @@ use Rattle.ak_core.specs.Layout.{Layout}
 use Rattle.ak_core.specs.Mem.{Touch}
 use Rattle.ak_core.specs.declared.page.Fault.{Fault}
 use Rattle.ak_core.specs.declared.registers.Regs.{Regs}
-use Rattle.ak_core.specs.declared.instruction.Instr.{Instr}
-use Rattle.ak_core.specs.declared.instruction.Instr.TheVariants.{MovImm, Add, Enclu}
 use Rattle.ak_model.specs.Pages.{pages}
 use Rattle.ak_model.specs.Instructions.{Plan, Traps, Computes, Reads, Writes, CallsOut}
 use Rattle.ak_model.specs.Flat.{Flat, End, Next, Call, Vector, Line, page_bytes}
@@ -66,14 +64,7 @@ IfIncomplete (Called number argument) fact = Unit {0}
 IfIncomplete (Trapped vector) fact = fact
 IfIncomplete (Faulted fault) fact = fact
 
--- ---- Instructions that ask nothing of memory
-
--- an instruction that asks nothing of memory, and names registers below 16
-abbrev pub IsPlain : Instr → Type 0
-IsPlain (MovImm reg imm) = reg < 16
-IsPlain (Add rm reg) = (rm < 16) × (reg < 16)
-IsPlain Enclu = Unit {0}
-IsPlain _ = ⊥
+-- ---- Plans that ask nothing of memory
 
 -- what a plan comes to, from these registers to those; one that asks memory is not carried out
 abbrev pub Performs : Plan → Turn → Regs → Regs → Type 0

@@ -1,19 +1,16 @@
 // The fetch of an instruction (SDM volume 3A, "Exception and Interrupt Reference").
 ghost use Rattle.std.specs.Prelude.{◌≡◌, ◌<◌, ◌≤◌, ◌+◌, ◌^◌, ◌++◌, [], None, true, length, take, drop};
 ghost use Rattle.ak_core.specs.Mem.{is_touched, touch};
-ghost use Rattle.ak_core.specs.declared.build.Build;
 ghost use Rattle.ak_core.specs.declared.page.Kind.TheVariants.{Exec};
 ghost use Rattle.ak_model.specs.Flat.{Flat};
 ghost use Rattle.ak_exec.specs.Turns.{Shows};
 ghost use Rattle.ak_exec.specs.Fetches.{Finds, IsSound, IfFound, Crosses, refused_fetch};
 
-use crate::decoder::decode;
+use crate::operands::PAGE;
 use crate::turn::{GENERAL_PROTECTION, INVALID_OPCODE};
 use ak_core::{Decoded, Fault, Instr, Layout, Mem, Page};
+use ak_isa::decode;
 use arrayvec::ArrayVec;
-
-/// The bytes of a page.
-const PAGE: u64 = 4096;
 
 /// The bytes of the longest encoding.
 const LONGEST: usize = 10;
@@ -43,7 +40,6 @@ fn take_bytes<M: Mem>(mem: &M, page: Page, from: u16, window: &mut ArrayVec<u8, 
 
 /// The instruction at RIP. Its bytes may go on in the next page.
 pub(crate) fn fetch<M: Mem>(layout: &Layout, rip: u64, mem: &mut M) -> Fetched
-    requires served { layout.now.build ≡ Build.Build.Resident }
     requires begun { M.granted mem.old ≡ [] }
     requires unrefused { M.refused mem.old ≡ None }
     ensures holds { M.holds mem.new ≡ M.holds mem.old }
@@ -52,6 +48,7 @@ pub(crate) fn fetch<M: Mem>(layout: &Layout, rip: u64, mem: &mut M) -> Fetched
     ensures refused { M.refused mem.new ≡ refused_fetch result }
     ensures sound { IsSound result }
     ensures room { IfFound result (rip + 10 < 2 ^ 64) }
+    ensures few { length (M.granted mem.new) ≤ 2 }
     ensures line { (flat : Flat) → flat.regs.rip ≡ rip → Shows layout.now (M.holds mem.old) (M.bytes mem.old) flat →
         Finds layout.now flat result (M.granted mem.new) }
 {
@@ -89,6 +86,7 @@ fn fetch_across<M: Mem>(mem: &mut M, next: Page, window: &mut ArrayVec<u8, LONGE
     ensures bytes { M.bytes mem.new ≡ M.bytes mem.old }
     ensures refused { M.refused mem.new ≡ refused_fetch result }
     ensures sound { IsSound result }
+    ensures few { length (M.granted mem.new) ≤ length (M.granted mem.old) + 1 }
     ensures crosses { Crosses (touch next.0 Exec) (window.old.items ++ M.bytes mem.old next.0) result (M.holds mem.old) (M.granted mem.old) (M.granted mem.new) }
 {
     if let Err(fault) = mem.touch_exec(next) {

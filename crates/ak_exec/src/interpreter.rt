@@ -1,79 +1,75 @@
 // One instruction of the program.
-ghost use Rattle.std.specs.Prelude.{◌≡◌, ◌<◌, ◌+◌, ◌^◌};
-ghost use Rattle.ak_core.specs.declared.build.Build;
+ghost use Rattle.std.specs.Prelude.{◌≡◌, ◌<◌, ◌≤◌, ◌+◌, ◌^◌, None, length};
 ghost use Rattle.ak_core.specs.declared.registers.Mode;
 ghost use Rattle.ak_model.specs.Flat.{Flat, line};
-ghost use Rattle.ak_model.specs.Instructions.{plan};
-ghost use Rattle.ak_exec.specs.Turns.{Shows, DoesLine, IfIncomplete, IsPlain, IsVector, Performs, refused_by};
+ghost use Rattle.ak_model.specs.Instructions.{plan, HasRegisters};
+ghost use Rattle.ak_exec.specs.Turns.{Shows, DoesLine, IfIncomplete, IsVector, refused_by};
+ghost use Rattle.ak_exec.specs.Carried.{CarriesOut};
 
+use crate::Turn;
 use crate::fetching::{Fetched, fetch};
-use crate::turn::GENERAL_PROTECTION;
-use crate::{Turn, alu};
+use crate::registers::{RSP, compute, moved};
+use crate::transfers::{load, load_byte, popped, push, return_near, store};
 use ak_core::{Instr, Layout, Mem, Regs};
 
-// The places of registers among the sixteen.
-const RAX: usize = 0;
-
-const RCX: usize = 1;
-
-const RSI: usize = 6;
-
-const RDI: usize = 7;
-
-/// The leaf of ENCLU that leaves the enclave (SDM volume 3D, "EEXIT").
-const EEXIT: u64 = 4;
-
-/// Leaves the enclave by a call, where EAX names EEXIT.
-fn leave(regs: &mut Regs, next: u64) -> Turn
-    requires { next < 2 ^ 64 }
-    ensures turn { Performs (plan Instr.Enclu (record regs.old { rip = next })) result regs.old regs.new }
-    ensures vector { IsVector result }
-    ensures mode { regs.new.mode ≡ regs.old.mode }
-{
-    if regs.gpr[RAX] % (1 << 32) != EEXIT {
-        return Turn::Trapped(GENERAL_PROTECTION);
-    }
-    regs.rip = next;
-    regs.gpr[RCX] = next;
-    Turn::Called(regs.gpr[RDI], regs.gpr[RSI])
-}
-
-/// Does an instruction of this size that asks nothing of memory.
-fn perform(regs: &mut Regs, instr: Instr, size: u8) -> Turn
-    requires plain { IsPlain instr }
+/// Does an instruction of this size, which was fetched.
+fn perform<M: Mem>(layout: &Layout, regs: &mut Regs, mem: &mut M, instr: Instr, size: u8) -> Turn
+    requires registers { HasRegisters instr }
     requires room { regs.old.rip + size < 2 ^ 64 }
-    ensures turn { Performs (plan instr (record regs.old { rip = regs.old.rip + size })) result regs.old regs.new }
-    ensures vector { IsVector result }
+    requires few { length (M.granted mem.old) ≤ 2 }
+    requires unrefused { M.refused mem.old ≡ None }
+    ensures holds { M.holds mem.new ≡ M.holds mem.old }
+    ensures tables { M.tables mem.new ≡ M.tables mem.old }
     ensures mode { regs.new.mode ≡ regs.old.mode }
+    ensures vector { IsVector result }
+    ensures refused { M.refused mem.new ≡ refused_by result }
+    ensures same_registers { IfIncomplete result (regs.new ≡ regs.old) }
+    ensures same_bytes { IfIncomplete result (M.bytes mem.new ≡ M.bytes mem.old) }
+    ensures carried { CarriesOut layout.now (plan instr (record regs.old { rip = regs.old.rip + size })) result regs.new
+        (M.holds mem.new) (M.bytes mem.old) (M.bytes mem.new) (M.granted mem.old) (M.granted mem.new) }
 {
     let next = regs.rip + size as u64;
+    let mut after = Regs { rip: next, ..*regs };
     match instr {
-        Instr::MovImm { reg, imm } => {
-            regs.rip = next;
-            regs.gpr[reg as usize] = imm;
-            Turn::Done
+        Instr::Store { rm, disp, reg } => {
+            let address = moved(regs.gpr[rm as usize], disp);
+            let bytes = regs.gpr[reg as usize].to_le_bytes();
+            store(layout, regs, mem, address, &bytes, after)
         }
-        Instr::Add { rm, reg } => {
-            regs.rip = next;
-            alu::add(regs, rm, reg);
-            Turn::Done
+        Instr::StoreByte { rm, disp, reg } => {
+            let address = moved(regs.gpr[rm as usize], disp);
+            let byte = (regs.gpr[reg as usize] % 256) as u8;
+            store(layout, regs, mem, address, &[byte], after)
         }
-        Instr::Enclu => leave(regs, next),
-        // No other encoding is served yet.
-        _ => unreachable!(),
+        Instr::Load { reg, rm, disp } => {
+            let address = moved(regs.gpr[rm as usize], disp);
+            load(layout, regs, mem, address, after, reg)
+        }
+        Instr::LoadByte { reg, rm, disp } => {
+            let address = moved(regs.gpr[rm as usize], disp);
+            load_byte(layout, regs, mem, address, after, reg)
+        }
+        Instr::CallNear { rel } => {
+            after.rip = moved(next, rel);
+            push(layout, regs, mem, next, after)
+        }
+        Instr::Push { reg } => push(layout, regs, mem, regs.gpr[reg as usize], after),
+        Instr::Return => return_near(layout, regs, mem, regs.gpr[RSP], popped(after)),
+        Instr::Pop { reg } => load(layout, regs, mem, regs.gpr[RSP], popped(after), reg),
+        _ => compute(regs, instr, next),
     }
 }
 
 /// Does the next instruction of the program, in a turn of its own on this memory.
 ///
 /// The instruction is read from the page of RIP, and from the next page where it goes on there; each is touched for
-/// executing before it is read. `Turn::Trapped` is vector 13 where RIP, or the rest of the instruction, is outside the
-/// program, or where ENCLU names another leaf than EEXIT; and vector 6 where the bytes are no instruction. `Turn::Faulted`
-/// is an access that the memory refused. Neither changes a register or a byte (SDM volume 2, "ADD" and "MOV"; SDM volume
-/// 3D, "ENCLU" and "EEXIT").
+/// executing before it is read. An operand in memory has one page or two; all are touched, in ascending order, before a
+/// byte of it is read or written. `Turn::Trapped` is vector 13 where RIP, the rest of the instruction, or a byte of its
+/// operand is outside the program, or where ENCLU names another leaf than EEXIT; vector 6 where the bytes are no
+/// instruction, or UD2; and vector 0 where a division is by zero or its quotient too large. `Turn::Faulted` is an access
+/// that the memory refused. Neither changes a register or a byte (SDM volume 2; SDM volume 3D, "ENCLU" and "EEXIT").
 pub fn exec<M: Mem>(layout: &Layout, regs: &mut Regs, mem: &mut M) -> Turn
     requires program { regs.old.mode ≡ Mode.Mode.Program }
-    requires served { layout.now.build ≡ Build.Build.Resident } // temporary: until the whole table is served
     ensures holds { M.holds mem.new ≡ M.holds mem.old }
     ensures tables { M.tables mem.new ≡ M.tables mem.old }
     ensures mode { regs.new.mode ≡ regs.old.mode }
@@ -86,7 +82,7 @@ pub fn exec<M: Mem>(layout: &Layout, regs: &mut Regs, mem: &mut M) -> Turn
 {
     mem.begin();
     match fetch(layout, regs.rip, mem) {
-        Fetched::Found(instr, size) => perform(regs, instr, size),
+        Fetched::Found(instr, size) => perform(layout, regs, mem, instr, size),
         Fetched::Raised(vector) => Turn::Trapped(vector),
         Fetched::Refused(fault) => Turn::Faulted(fault),
     }

@@ -2,11 +2,15 @@
 #![tactic(auto)]
 
 mod alu;
-mod decoder;
 mod fetching;
 mod interpreter;
+mod operands;
+#[cfg(test)]
+mod register_tests;
+mod registers;
 #[cfg(test)]
 mod tests;
+mod transfers;
 mod turn;
 
 pub use interpreter::exec;

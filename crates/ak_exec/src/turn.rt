@@ -2,6 +2,9 @@
 
 use ak_core::Fault;
 
+/// The vector of a division by zero, or of a quotient that is too large (SDM volume 3A, "Interrupt 0").
+pub(crate) const DIVIDE_ERROR: u8 = 0;
+
 /// The vector of an invalid opcode (SDM volume 3A, "Interrupt 6").
 pub(crate) const INVALID_OPCODE: u8 = 6;
 

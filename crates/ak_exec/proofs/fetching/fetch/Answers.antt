@@ -2,9 +2,8 @@ use Rattle.std.proofs.Common.{◌≡◌, true, ◌+◌, ◌-◌, ◌/◌, ◌%�
 use Rattle.ak_core.specs.Mem.{touch}
 use Rattle.ak_core.specs.declared.page.Kind.TheVariants.{Exec}
 use Rattle.ak_model.specs.Pages.{pages}
-use Rattle.ak_model.specs.Encodings.{decode_by, first_rows}
+use Rattle.ak_model.specs.Encodings.{decode}
 use Rattle.ak_model.specs.Flat.{Vector, line_of, perform, in_first_page, page_bytes}
-use Rattle.ak_exec.proofs.FirstRows.{sound}
 use Rattle.ak_exec.proofs.Lines.{first_line, first_refused, at_the_end, next_line}
 use Rattle.ak_exec.proofs.fetching.fetch.Goals as goal
 
@@ -15,9 +14,6 @@ returns-in-Err-clause-line g c flat r shows =
     c.base-base.ensures.base r (omega arith) (omega (arith, n))
     (c.in-Err.ensures.touch.same ∙ c.requires.begun) c.in-Err.ensures.touch.err
 
-pub returns-in-Whole-clause-sound : goal.returns-in-Whole-clause-sound
-returns-in-Whole-clause-sound g c = sound c.deref.result.now c.in-Whole.instr c.in-Whole.size (sym c.decode.ensures ∙ c.in-Whole.is)
-
 pub returns-in-Whole-clause-line : goal.returns-in-Whole-clause-line
 returns-in-Whole-clause-line g c flat r shows =
     let p = (c.args.rip - c.base-base.result) / 4096 in
@@ -27,7 +23,7 @@ returns-in-Whole-clause-line g c flat r shows =
     let window = c.deref.ensures.0 ∙ c.take_bytes.ensures ∙ ap (λ xs. take 10 (xs ++ drop ((c.args.rip - c.base-base.result) % 4096) (g.M.Mem.bytes c.touch_exec.new.self p))) c.new-window.ensures in
     let granted : g.M.Mem.granted c.touch_exec.new.self ≡ touch p Exec ∷ [] = c.in_default.ensures.touch.ok ∙ ap (λ xs. xs ++ touch p Exec ∷ []) c.requires.begun in
     first_line c.args.layout.now flat c.args.rip c.base-base.result c.decode.result (g.M.Mem.bytes c.touch_exec.new.self p) c.deref.result.now
-    c.requires.served c.base-base.ensures.base r (omega arith) (omega (arith, n)) page window c.decode.ensures
+    c.base-base.ensures.base r (omega arith) (omega (arith, n)) page window c.decode.ensures.table
     ∙ ap (in_first_page c.args.layout.now flat p) c.in-Whole.is
     ∙ ap (λ ts. perform c.args.layout.now flat ts c.in-Whole.instr c.in-Whole.size) (sym granted)
 
@@ -40,7 +36,7 @@ returns-in-Illegal-clause-line g c flat r shows =
     let window = c.deref.ensures.0 ∙ c.take_bytes.ensures ∙ ap (λ xs. take 10 (xs ++ drop ((c.args.rip - c.base-base.result) % 4096) (g.M.Mem.bytes c.touch_exec.new.self p))) c.new-window.ensures in
     let granted : g.M.Mem.granted c.touch_exec.new.self ≡ touch p Exec ∷ [] = c.in_default.ensures.touch.ok ∙ ap (λ xs. xs ++ touch p Exec ∷ []) c.requires.begun in
     first_line c.args.layout.now flat c.args.rip c.base-base.result c.decode.result (g.M.Mem.bytes c.touch_exec.new.self p) c.deref.result.now
-    c.requires.served c.base-base.ensures.base r (omega arith) (omega (arith, n)) page window c.decode.ensures
+    c.base-base.ensures.base r (omega arith) (omega (arith, n)) page window c.decode.ensures.table
     ∙ ap (in_first_page c.args.layout.now flat p) c.in-Illegal.is
     ∙ ap (λ ts. line_of ts (Vector 6)) (sym granted)
 
@@ -53,7 +49,7 @@ returns-then-next-pages-clause-line g c flat r shows =
     let window = c.deref.ensures.0 ∙ c.take_bytes.ensures ∙ ap (λ xs. take 10 (xs ++ drop ((c.args.rip - c.base-base.result) % 4096) (g.M.Mem.bytes c.touch_exec.new.self p))) c.new-window.ensures in
     let granted : g.M.Mem.granted c.touch_exec.new.self ≡ touch p Exec ∷ [] = c.in_default.ensures.touch.ok ∙ ap (λ xs. xs ++ touch p Exec ∷ []) c.requires.begun in
     first_line c.args.layout.now flat c.args.rip c.base-base.result c.decode.result (g.M.Mem.bytes c.touch_exec.new.self p) c.deref.result.now
-    c.requires.served c.base-base.ensures.base r (omega arith) (omega (arith, n)) page window c.decode.ensures
+    c.base-base.ensures.base r (omega arith) (omega (arith, n)) page window c.decode.ensures.table
     ∙ ap (in_first_page c.args.layout.now flat p) c.in-NeedMore.is
     ∙ at_the_end c.args.layout.now flat p (omega (arith, n))
     ∙ ap (λ ts. line_of ts (Vector 13)) (sym granted)
@@ -70,5 +66,5 @@ returns-else-next-pages-clause-line g c flat r shows =
     let held = λ (h : g.M.Mem.holds c.touch_exec.new.self (p + 1) ≡ true). ap (λ f. f (p + 1)) c.in_default.ensures.bytes ∙ shows (p + 1) next (ap (λ f. f (p + 1)) (sym c.in_default.ensures.holds) ∙ h) in
     next_line c.args.layout.now flat c.args.rip c.base-base.result c.fetch_across.result (g.M.Mem.bytes c.touch_exec.new.self p) c.take_bytes.new.window.items (g.M.Mem.bytes c.touch_exec.new.self (p + 1))
     (g.M.Mem.holds c.touch_exec.new.self) (g.M.Mem.granted c.touch_exec.new.self) (g.M.Mem.granted c.fetch_across.new.mem)
-    c.requires.served c.base-base.ensures.base r (omega arith) (omega (arith, n)) next page window held
-    (sym c.in-NeedMore.is ∙ c.decode.ensures ∙ ap (decode_by first_rows) c.deref.ensures.0) granted c.fetch_across.ensures.crosses
+    c.base-base.ensures.base r (omega arith) (omega (arith, n)) next page window held
+    (sym c.in-NeedMore.is ∙ c.decode.ensures.table ∙ ap decode c.deref.ensures.0) granted c.fetch_across.ensures.crosses

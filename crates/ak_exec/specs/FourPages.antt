@@ -1,0 +1,45 @@
+-- The memory of four pages that the tests use.
+use Rattle.std.specs.Prelude.{◌≡◌, ℕ, zero, suc, Bool, true, false, ◌&&◌, not, List, [], ◌∷◌, refl, length, replicate, Option, Some, None, nat_lt, slice_index_or, ◌==◌}
+use Rattle.std.specs.List.{list_all}
+use Rattle.std.proofs.lemmas.List.{length-replicate}
+use Rattle.std.proofs.lemmas.Bool.{eqb-true}
+use Rattle.ak_core.specs.Mem.{Touch}
+
+-- a page of zeros, which stands for each page after the fourth
+pub blank_page : List ℕ
+blank_page = replicate 4096 0
+
+length-blank_page : length blank_page ≡ 4096
+unfolding blank_page
+length-blank_page = length-replicate {A = ℕ} 4096 0
+
+-- the bytes of a page
+abbrev pub page_of : List (List ℕ) → ℕ → List ℕ
+page_of pages p = slice_index_or pages p blank_page
+
+-- each page has 4096 bytes
+abbrev pub are_whole : List (List ℕ) → Bool
+are_whole pages = list_all (λ page. length page == 4096) pages
+
+both : (a b : Bool) → (a && b) ≡ true → (a ≡ true) × (b ≡ true)
+both true b h = (refl, h)
+both false b h = cc
+
+-- so has each that stands in its place
+pub length-page_of : (pages : List (List ℕ)) (p : ℕ) → are_whole pages ≡ true → length (page_of pages p) ≡ 4096
+length-page_of [] p h = length-blank_page
+length-page_of (page ∷ pages) zero h = eqb-true _ _ (both (length page == 4096) (are_whole pages) h).0
+length-page_of (page ∷ pages) (suc p) h = length-page_of pages p (both (length page == 4096) (are_whole pages) h).1
+
+-- the page that is out, if one is
+abbrev pub is_out : Option ℕ → ℕ → Bool
+is_out None p = false
+is_out (Some q) p = p == q
+
+-- one of the four pages that is not out
+abbrev pub is_in : Option ℕ → ℕ → Bool
+is_in out p = nat_lt p 4 && not (is_out out p)
+
+-- the accesses are of the four pages
+abbrev pub are_inside : List Touch → Bool
+are_inside touches = list_all (λ t. nat_lt t.page.0 4) touches

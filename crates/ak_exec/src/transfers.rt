@@ -1,0 +1,193 @@
+// Instructions that read or write one operand in memory, by what they ask.
+ghost use Rattle.std.specs.Prelude.{◌≡◌, ◌<◌, ◌≤◌, ◌+◌, ◌*◌, ◌/◌, None, length};
+ghost use Rattle.ak_model.specs.Instructions.{Reads, Writes, le_bytes, minus, plus, reg_of, rsp, with_reg};
+ghost use Rattle.ak_exec.specs.Turns.{IfIncomplete, IsVector, refused_by};
+ghost use Rattle.ak_exec.specs.Carried.{CarriesOut, turn_of};
+
+use crate::Turn;
+use crate::operands::{Unreached, read, write};
+use crate::registers::RSP;
+use crate::turn::GENERAL_PROTECTION;
+use ak_core::{Layout, Mem, Regs};
+
+impl Unreached {
+    /// How the turn ends.
+    fn turn(self) -> Turn
+        ensures { result ≡ turn_of self }
+    {
+        match self {
+            Unreached::Outside => Turn::Trapped(GENERAL_PROTECTION),
+            Unreached::Refused(fault) => Turn::Faulted(fault),
+        }
+    }
+}
+
+/// Reads 8 bytes into the register `reg`; the registers are otherwise those of `after`.
+pub(crate) fn load<M: Mem>(
+    layout: &Layout,
+    regs: &mut Regs,
+    mem: &mut M,
+    address: u64,
+    after: Regs,
+    reg: u8,
+) -> Turn
+    requires reg { reg < 16 }
+    requires mode { after.mode ≡ regs.old.mode }
+    requires few { length (M.granted mem.old) ≤ 2 }
+    requires unrefused { M.refused mem.old ≡ None }
+    ensures holds { M.holds mem.new ≡ M.holds mem.old }
+    ensures tables { M.tables mem.new ≡ M.tables mem.old }
+    ensures mode { regs.new.mode ≡ regs.old.mode }
+    ensures vector { IsVector result }
+    ensures refused { M.refused mem.new ≡ refused_by result }
+    ensures same_registers { IfIncomplete result (regs.new ≡ regs.old) }
+    ensures same_bytes { IfIncomplete result (M.bytes mem.new ≡ M.bytes mem.old) }
+    ensures carried { CarriesOut layout.now (Reads address 8 (λ v. with_reg after reg v)) result regs.new
+        (M.holds mem.new) (M.bytes mem.old) (M.bytes mem.new) (M.granted mem.old) (M.granted mem.new) }
+{
+    let mut bytes = [0; 8];
+    match read(layout, mem, address, &mut bytes) {
+        Ok(()) => {
+            *regs = after;
+            regs.gpr[reg as usize] = u64::from_le_bytes(bytes);
+            Turn::Done
+        }
+        Err(unreached) => unreached.turn(),
+    }
+}
+
+/// Reads a byte into the low byte of the register `reg`; the registers are otherwise those of `after`.
+pub(crate) fn load_byte<M: Mem>(
+    layout: &Layout,
+    regs: &mut Regs,
+    mem: &mut M,
+    address: u64,
+    after: Regs,
+    reg: u8,
+) -> Turn
+    requires reg { reg < 16 }
+    requires mode { after.mode ≡ regs.old.mode }
+    requires few { length (M.granted mem.old) ≤ 2 }
+    requires unrefused { M.refused mem.old ≡ None }
+    ensures holds { M.holds mem.new ≡ M.holds mem.old }
+    ensures tables { M.tables mem.new ≡ M.tables mem.old }
+    ensures mode { regs.new.mode ≡ regs.old.mode }
+    ensures vector { IsVector result }
+    ensures refused { M.refused mem.new ≡ refused_by result }
+    ensures same_registers { IfIncomplete result (regs.new ≡ regs.old) }
+    ensures same_bytes { IfIncomplete result (M.bytes mem.new ≡ M.bytes mem.old) }
+    ensures carried { CarriesOut layout.now
+        (Reads address 1 (λ v. with_reg after reg (reg_of after reg / 256 * 256 + v))) result regs.new
+        (M.holds mem.new) (M.bytes mem.old) (M.bytes mem.new) (M.granted mem.old) (M.granted mem.new) }
+{
+    let mut bytes = [0];
+    match read(layout, mem, address, &mut bytes) {
+        Ok(()) => {
+            *regs = after;
+            let register = regs.gpr[reg as usize];
+            regs.gpr[reg as usize] = register / 256 * 256 + bytes[0] as u64;
+            Turn::Done
+        }
+        Err(unreached) => unreached.turn(),
+    }
+}
+
+/// Reads 8 bytes into RIP; the registers are otherwise those of `after`.
+pub(crate) fn return_near<M: Mem>(
+    layout: &Layout,
+    regs: &mut Regs,
+    mem: &mut M,
+    address: u64,
+    after: Regs,
+) -> Turn
+    requires mode { after.mode ≡ regs.old.mode }
+    requires few { length (M.granted mem.old) ≤ 2 }
+    requires unrefused { M.refused mem.old ≡ None }
+    ensures holds { M.holds mem.new ≡ M.holds mem.old }
+    ensures tables { M.tables mem.new ≡ M.tables mem.old }
+    ensures mode { regs.new.mode ≡ regs.old.mode }
+    ensures vector { IsVector result }
+    ensures refused { M.refused mem.new ≡ refused_by result }
+    ensures same_registers { IfIncomplete result (regs.new ≡ regs.old) }
+    ensures same_bytes { IfIncomplete result (M.bytes mem.new ≡ M.bytes mem.old) }
+    ensures carried { CarriesOut layout.now (Reads address 8 (λ v. record after { rip = v })) result regs.new
+        (M.holds mem.new) (M.bytes mem.old) (M.bytes mem.new) (M.granted mem.old) (M.granted mem.new) }
+{
+    let mut bytes = [0; 8];
+    match read(layout, mem, address, &mut bytes) {
+        Ok(()) => {
+            *regs = after;
+            regs.rip = u64::from_le_bytes(bytes);
+            Turn::Done
+        }
+        Err(unreached) => unreached.turn(),
+    }
+}
+
+/// Writes these bytes; the registers become those of `after`.
+pub(crate) fn store<M: Mem>(
+    layout: &Layout,
+    regs: &mut Regs,
+    mem: &mut M,
+    address: u64,
+    bytes: &[u8],
+    after: Regs,
+) -> Turn
+    requires some { 1 ≤ length bytes.now }
+    requires within { length bytes.now ≤ 8 }
+    requires mode { after.mode ≡ regs.old.mode }
+    requires few { length (M.granted mem.old) ≤ 2 }
+    requires unrefused { M.refused mem.old ≡ None }
+    ensures holds { M.holds mem.new ≡ M.holds mem.old }
+    ensures tables { M.tables mem.new ≡ M.tables mem.old }
+    ensures mode { regs.new.mode ≡ regs.old.mode }
+    ensures vector { IsVector result }
+    ensures refused { M.refused mem.new ≡ refused_by result }
+    ensures same_registers { IfIncomplete result (regs.new ≡ regs.old) }
+    ensures same_bytes { IfIncomplete result (M.bytes mem.new ≡ M.bytes mem.old) }
+    ensures carried { CarriesOut layout.now (Writes address bytes.now after) result regs.new
+        (M.holds mem.new) (M.bytes mem.old) (M.bytes mem.new) (M.granted mem.old) (M.granted mem.new) }
+{
+    match write(layout, mem, address, bytes) {
+        Ok(()) => {
+            *regs = after;
+            Turn::Done
+        }
+        Err(unreached) => unreached.turn(),
+    }
+}
+
+/// Pushes a number; the registers are otherwise those of `after`.
+pub(crate) fn push<M: Mem>(
+    layout: &Layout,
+    regs: &mut Regs,
+    mem: &mut M,
+    number: u64,
+    mut after: Regs,
+) -> Turn
+    requires mode { after.mode ≡ regs.old.mode }
+    requires few { length (M.granted mem.old) ≤ 2 }
+    requires unrefused { M.refused mem.old ≡ None }
+    ensures holds { M.holds mem.new ≡ M.holds mem.old }
+    ensures tables { M.tables mem.new ≡ M.tables mem.old }
+    ensures mode { regs.new.mode ≡ regs.old.mode }
+    ensures vector { IsVector result }
+    ensures refused { M.refused mem.new ≡ refused_by result }
+    ensures same_registers { IfIncomplete result (regs.new ≡ regs.old) }
+    ensures same_bytes { IfIncomplete result (M.bytes mem.new ≡ M.bytes mem.old) }
+    ensures carried { let top = minus (reg_of after rsp) 8 in
+        CarriesOut layout.now (Writes top (le_bytes 8 number) (with_reg after rsp top)) result regs.new
+        (M.holds mem.new) (M.bytes mem.old) (M.bytes mem.new) (M.granted mem.old) (M.granted mem.new) }
+{
+    let top = after.gpr[RSP].wrapping_sub(8);
+    after.gpr[RSP] = top;
+    store(layout, regs, mem, top, &number.to_le_bytes(), after)
+}
+
+/// The registers with 8 bytes less on the stack.
+pub(crate) fn popped(mut regs: Regs) -> Regs
+    ensures { result ≡ with_reg regs rsp (plus (reg_of regs rsp) 8) }
+{
+    regs.gpr[RSP] = regs.gpr[RSP].wrapping_add(8);
+    regs
+}
