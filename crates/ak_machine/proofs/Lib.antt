@@ -2,7 +2,7 @@ pub mod Frames
 pub mod FlatRuns
 pub mod Going
 pub mod Walked
-pub mod OneTouch
+pub mod Refused
 pub mod ProgramTurns
 pub mod RuntimeTurns
 pub mod SoundTurns

@@ -189,6 +189,7 @@ few_saved : (stage : Stage) → (length (stack_in stage) == 3) ≡ false
 few_saved Stage.New = refl
 few_saved (Stage.Raised v) = refl
 few_saved (Stage.Broken access) = refl
+few_saved Stage.Denied = refl
 few_saved Stage.Calling = refl
 few_saved (Stage.Ended s) = refl
 few_saved (Stage.Trapped v) = refl

@@ -1,6 +1,6 @@
 -- The turns of the program, from what its next instruction does of the flat state.
 use Rattle.std.proofs.Common.{◌≡◌, ℕ, zero, suc, ◌+◌, List, [], ◌∷◌, ◌++◌, refl, ap, ◌∙◌, sym, subst, arith, add-one, below_more, true, false}
-use Rattle.std.specs.Prelude.{Option, Some, None, option_and_then, ◌==◌}
+use Rattle.std.specs.Prelude.{Option, Some, None, Bool, option_and_then, ◌==◌, if◌then◌else◌}
 use Rattle.std.specs.List.{list_all}
 use Rattle.ak_core.specs.Layout.{Layout}
 use Rattle.ak_core.specs.Mem.{Touch, Tables}
@@ -11,18 +11,19 @@ use Rattle.ak_core.specs.declared.registers.Regs.{Regs}
 use Rattle.ak_model.specs.History.{History}
 use Rattle.ak_model.specs.Inside.{inside}
 use Rattle.ak_model.specs.Walk.{touch_walkable}
-use Rattle.ak_model.specs.Flat.{Flat, End, Run, line, step, flat_run}
+use Rattle.ak_model.specs.Flat.{Flat, End, Run, line, step, flat_run, is_forbidden}
 use Rattle.ak_model.specs.ProgramStep.{event_turn}
 use Rattle.ak_model.specs.Events.{completed_by, vector_by, step_at}
 use Rattle.ak_model.specs.ProgramTurns.{ProgramTurn}
 use Rattle.ak_model.specs.Reached.{MayComplete, touches_at, touches_next}
 use Rattle.ak_model.specs.MayFault.{MayFault}
-use Rattle.ak_model.proofs.Walks.{completes-walked, faults-walked}
+use Rattle.ak_model.proofs.Walks.{completes-walked, traps-walked, faults-walked}
 use Rattle.ak_exec.specs.Turns.{Shows, Completes, Raises, Refuses}
 use Rattle.ak_machine.specs.declared.activity.Stage.{Stage}
 use Rattle.ak_machine.specs.declared.activity.Activity.{Activity}
 use Rattle.ak_machine.specs.FirstImage.{IsOnePageLayout}
 use Rattle.ak_machine.specs.Memory.{is_held, finds}
+use Rattle.ak_machine.specs.Faults.{fault_stage, fault_event}
 use Rattle.ak_machine.specs.State.{State}
 use Rattle.ak_machine.specs.Controls.{GoesOn, IsGoing, control_of}
 use Rattle.ak_machine.specs.Stands.{Stands}
@@ -30,7 +31,7 @@ use Rattle.ak_machine.specs.Moves.{DoesTurn}
 use Rattle.ak_machine.proofs.Going.{later_less, not_due, due_now, going_more, going_call, tape_more, unmissed_more, call_at_going, call_at_new, call_at_below, call_at_trap, call_at_break, forced_call, forced_trap, forced_break}
 use Rattle.ak_machine.proofs.FlatRuns.{run_next, step_is, outputs_done, outputs_called}
 use Rattle.ak_machine.proofs.Walked.{finds-walkable, granted_walkable, step_is_end}
-use Rattle.ak_machine.proofs.OneTouch.{refused_permitted, refused_in}
+use Rattle.ak_machine.proofs.Refused.{refused_in, step_denied}
 
 -- a state at this activity
 abbrev pub at : State → Activity → State
@@ -211,17 +212,17 @@ module _ (layout : Layout) (image : List ℕ) (past : History) (s : State) (retu
 
   -- ---- A fault
 
-  broken_at : (access : Fault) (granted : List Touch) → IsOnePageLayout layout → (st : Stands layout image past (at s Activity.Running) returned shown events) →
+  broken_at : (access : Fault) (granted : List Touch) → IsOnePageLayout layout → is_forbidden layout access ≡ false → (st : Stands layout image past (at s Activity.Running) returned shown events) →
       Refuses (line layout st.bytes.flat) access granted → list_all (finds s.tables) granted ≡ true → finds s.tables access ≡ false →
       DoesTurn layout image past (at s Activity.Running) (at s (Activity.Outside (Stage.Broken access))) (Some (Exit.Pf layout.base 4)) (Some (Event.Break s.count)) returned shown events
-  broken_at access granted is st line_is found lost =
+  broken_at access granted is permitted st line_is found lost =
       let turn = turn_of past s.count (Some (Event.Break s.count)) in
       let walked = granted_walkable layout past Activity.Running s.tables granted st.tables found in
       let unmapped = sym (finds-walkable layout past Activity.Running s.tables access st.tables) ∙ lost in
       let faults : MayFault layout (flat_run layout image returned) turn access =
       faults-walked layout (flat_run layout image returned) turn st.tables.within granted line_is.rest access
       (accesses layout image past returned s.count st.bytes.flat (Some (Event.Break s.count)) st.bytes.placed ∙ line_is.next)
-      walked (refused_permitted layout st.bytes.flat granted access is line_is) unmapped in
+      walked permitted unmapped in
       record {
         stands = λ turns. record {
           tape = record {
@@ -254,6 +255,61 @@ module _ (layout : Layout) (image : List ℕ) (past : History) (s : State) (retu
           tt,
         );
       }
+
+  -- ---- A denied access
+
+  denied_at : (access : Fault) (granted : List Touch) → (st : Stands layout image past (at s Activity.Running) returned shown events) →
+      Refuses (line layout st.bytes.flat) access granted → list_all (finds s.tables) granted ≡ true → is_forbidden layout access ≡ true →
+      DoesTurn layout image past (at s Activity.Running) (at s (Activity.Outside Stage.Denied)) (Some (Exit.Pf layout.base 4)) (Some (Event.Trap s.count 14)) returned shown events
+  denied_at access granted st line_is found forbidden =
+      let turn = turn_of past s.count (Some (Event.Trap s.count 14)) in
+      let walked = granted_walkable layout past Activity.Running s.tables granted st.tables found in
+      let ends : step layout st.bytes.flat ≡ End.Vector 14 = step_denied layout st.bytes.flat granted line_is.rest access line_is.next forbidden in
+      record {
+        stands = λ turns. record {
+          tape = record {
+            ordered = tape_more s.count events (Event.Trap s.count 14) refl st.control st.tape.ordered;
+            completed = λ i lt. st.tape.completed i lt ∙ ap Some (sym (call_at_trap s.count 14 i events));
+            traps = forced_trap layout (flat_run layout image returned) s.count 14 events st.control
+                (reached_end layout image returned s.count _ vector_by _ _ st.bytes.placed ends refl);
+            unmissed = unmissed_more events (Event.Trap s.count 14) refl st.tape.unmissed;
+          };
+          outputs = st.outputs;
+          tables = record { entries = st.tables.entries; sized = st.tables.sized; mapped = st.tables.mapped; within = refl };
+          control = tt;
+          bytes = record {
+            flat = st.bytes.flat;
+            registers = st.bytes.registers;
+            shows = st.bytes.shows;
+            placed = record { reached = st.bytes.placed; raises = ends };
+          };
+          reached = tt;
+        };
+        traced = λ later ok.
+            ap (event_turn layout (control_of layout (at s Activity.Running) returned (Event.Trap s.count 14 ∷ later))) (due_now s.count (Event.Trap s.count 14) later refl);
+        due = λ later ok. omega arith;
+        made = λ later ok. ap (λ event. turn_of past s.count event ∷ []) (due_now s.count (Event.Trap s.count 14) later refl);
+        sound = (
+          record {
+            comes = (_, st.bytes.placed);
+            reached = traps-walked layout (flat_run layout image returned) turn st.tables.within granted line_is.rest access
+                (accesses layout image past returned s.count st.bytes.flat (Some (Event.Trap s.count 14)) st.bytes.placed ∙ line_is.next)
+                walked forbidden;
+            faults = tt;
+            unmissed = refl;
+          },
+          tt,
+        );
+      }
+
+  -- an access that faults, by whether it is forbidden
+  faulted_at : (b : Bool) (access : Fault) (granted : List Touch) → IsOnePageLayout layout → is_forbidden layout access ≡ b →
+      (st : Stands layout image past (at s Activity.Running) returned shown events) →
+      Refuses (line layout st.bytes.flat) access granted → list_all (finds s.tables) granted ≡ true → finds s.tables access ≡ false →
+      DoesTurn layout image past (at s Activity.Running) (at s (Activity.Outside (if b then Stage.Denied else Stage.Broken access))) (Some (Exit.Pf layout.base 4))
+      (Some (if b then Event.Trap s.count 14 else Event.Break s.count)) returned shown events
+  faulted_at true access granted is forbidden st line_is found lost = denied_at access granted st line_is found forbidden
+  faulted_at false access granted is permitted st line_is found lost = broken_at access granted is permitted st line_is found lost
 
   -- ---- By what an instruction did
 
@@ -313,17 +369,18 @@ module _ (layout : Layout) (image : List ℕ) (past : History) (s : State) (retu
       (subst Q (sym running) (λ st. raised_at v granted st (does st.bytes.flat st.bytes.registers st.bytes.shows) here other))
 
   -- an access of an instruction was refused
-  pub broken : (access : Fault) (regs : Regs) (tables : Tables) (bytes : ℕ → List ℕ) (granted : List Touch) → IsOnePageLayout layout → s.activity ≡ Activity.Running →
+  pub faulted : (access : Fault) (regs : Regs) (tables : Tables) (bytes : ℕ → List ℕ) (granted : List Touch) → IsOnePageLayout layout → s.activity ≡ Activity.Running →
       regs ≡ s.regs → tables ≡ s.tables → bytes ≡ s.bytes →
       Does (λ flat. Refuses (line layout flat) access granted) → list_all (finds tables) granted ≡ true → finds tables access ≡ false → Stands layout image past s returned shown events →
-      DoesTurn layout image past s (record { activity = Activity.Outside (Stage.Broken access); regs = regs; count = s.count; tables = tables; bytes = bytes })
-      (Some (Exit.Pf layout.base 4)) (Some (Event.Break s.count)) returned shown events
-  broken access regs tables bytes granted is running same_regs same same_bytes does found lost =
+      DoesTurn layout image past s (record { activity = Activity.Outside (fault_stage layout access); regs = regs; count = s.count; tables = tables; bytes = bytes })
+      (Some (Exit.Pf layout.base 4)) (Some (fault_event layout access s.count)) returned shown events
+  faulted access regs tables bytes granted is running same_regs same same_bytes does found lost =
+      let event = fault_event layout access s.count in
       let N : State → Type 0 = λ new. Stands layout image past s returned shown events →
-      DoesTurn layout image past s new (Some (Exit.Pf layout.base 4)) (Some (Event.Break s.count)) returned shown events in
+      DoesTurn layout image past s new (Some (Exit.Pf layout.base 4)) (Some event) returned shown events in
       let Q : Activity → Type 0 = λ c. Stands layout image past (at s c) returned shown events →
-      DoesTurn layout image past (at s c) (at s (Activity.Outside (Stage.Broken access))) (Some (Exit.Pf layout.base 4)) (Some (Event.Break s.count)) returned shown events in
+      DoesTurn layout image past (at s c) (at s (Activity.Outside (fault_stage layout access))) (Some (Exit.Pf layout.base 4)) (Some event) returned shown events in
       let here : list_all (finds s.tables) granted ≡ true = subst (λ (t : Tables). list_all (finds t) granted ≡ true) same found in
       let gone : finds s.tables access ≡ false = subst (λ (t : Tables). finds t access ≡ false) same lost in
-      subst N (sym (same_state (Stage.Broken access) regs tables bytes same_regs same same_bytes))
-      (subst Q (sym running) (λ st. broken_at access granted is st (does st.bytes.flat st.bytes.registers st.bytes.shows) here gone))
+      subst N (sym (same_state (fault_stage layout access) regs tables bytes same_regs same same_bytes))
+      (subst Q (sym running) (λ st. faulted_at (is_forbidden layout access) access granted is refl st (does st.bytes.flat st.bytes.registers st.bytes.shows) here gone))

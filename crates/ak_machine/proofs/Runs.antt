@@ -20,6 +20,7 @@ use Rattle.ak_machine.specs.State.{State}
 use Rattle.ak_machine.specs.Controls.{control_of}
 use Rattle.ak_machine.specs.Stands.{Stands, StageReached, ReachedStands}
 use Rattle.ak_machine.specs.SoundTurns.{IsSoundTurn, AreSound, made_by}
+use Rattle.ak_machine.specs.Faults.{fault_event}
 use Rattle.ak_machine.specs.Turning.{QuietlyLeaves, note_or}
 use Rattle.ak_machine.specs.Moves.{DoesTurn, RunsSoFar, DoesRun, value_at, first_then, turn_to, event_in}
 use Rattle.ak_machine.proofs.SoundTurns.{sound-with_more}
@@ -36,6 +37,7 @@ stage_reached_more (Stage.Broken access) layout image pair past count returned h
   broke = h.broke;
   faults = h.faults;
 }
+stage_reached_more Stage.Denied layout image pair past count returned h = tt
 stage_reached_more Stage.New layout image pair past count returned h = tt
 stage_reached_more (Stage.Raised v) layout image pair past count returned h = tt
 stage_reached_more Stage.Calling layout image pair past count returned h = tt
@@ -183,46 +185,46 @@ module _ (layout : Layout) (image : List ℕ) (past : History) where
 
   -- the turn leaves after the event of a note
   later_leaves : (old mid new : State) (turned : Turned) (x : Exit) (note : ProgramNote) (event : Event) (i n : ℕ) (returned shown : List ℕ) (events : List Event) →
-      (s : RunsSoFar layout image past old mid (event_in note mid.count) i returned shown events) →
-      DoesTurn layout image past mid new turned.exit (event_in turned.program new.count) s.values shown (with_more events (event_in note mid.count)) →
-      QuietlyLeaves turned mid.count new.count → event_in note mid.count ≡ Some event → turned.exit ≡ Some x → i < n →
-      DoesRun layout image past old new x (event_in (note_or turned.program note) new.count) n returned shown events
+      (s : RunsSoFar layout image past old mid (event_in layout note mid.count) i returned shown events) →
+      DoesTurn layout image past mid new turned.exit (event_in layout turned.program new.count) s.values shown (with_more events (event_in layout note mid.count)) →
+      QuietlyLeaves turned mid.count new.count → event_in layout note mid.count ≡ Some event → turned.exit ≡ Some x → i < n →
+      DoesRun layout image past old new x (event_in layout (note_or turned.program note) new.count) n returned shown events
   later_leaves old mid new turned x note event i n returned shown events s d q is left lt =
       let E : Option Event → Type 0 = λ o. (s' : RunsSoFar layout image past old mid o i returned shown events) →
       DoesTurn layout image past mid new turned.exit None s'.values shown (with_more events o) → DoesRun layout image past old new x o n returned shown events in
       let start : E (Some event) = λ s' d'. leaves_after old mid new turned.exit x event i n returned shown events s' d' left lt in
-      let made : DoesRun layout image past old new x (event_in note mid.count) n returned shown events =
+      let made : DoesRun layout image past old new x (event_in layout note mid.count) n returned shown events =
       subst E (sym is) start s
-      (subst (λ (p : ProgramNote). DoesTurn layout image past mid new turned.exit (event_in p new.count) s.values shown (with_more events (event_in note mid.count))) q.quiet d) in
-      let N : ProgramNote → Type 0 = λ p. DoesRun layout image past old new x (event_in (note_or p note) new.count) n returned shown events in
-      let C : ℕ → Type 0 = λ k. DoesRun layout image past old new x (event_in note k) n returned shown events in
+      (subst (λ (p : ProgramNote). DoesTurn layout image past mid new turned.exit (event_in layout p new.count) s.values shown (with_more events (event_in layout note mid.count))) q.quiet d) in
+      let N : ProgramNote → Type 0 = λ p. DoesRun layout image past old new x (event_in layout (note_or p note) new.count) n returned shown events in
+      let C : ℕ → Type 0 = λ k. DoesRun layout image past old new x (event_in layout note k) n returned shown events in
       subst N (sym q.quiet) (subst C (sym q.count) made)
 
   -- the turn leaves, by what was noted so far
   pub leaves_any : (old mid new : State) (turned : Turned) (x : Exit) (note : ProgramNote) (i n : ℕ) (returned shown : List ℕ) (events : List Event) →
-      (s : RunsSoFar layout image past old mid (event_in note mid.count) i returned shown events) →
-      DoesTurn layout image past mid new turned.exit (event_in turned.program new.count) s.values shown (with_more events (event_in note mid.count)) →
+      (s : RunsSoFar layout image past old mid (event_in layout note mid.count) i returned shown events) →
+      DoesTurn layout image past mid new turned.exit (event_in layout turned.program new.count) s.values shown (with_more events (event_in layout note mid.count)) →
       ((note ≡ ProgramNote.Plain → ⊥) → QuietlyLeaves turned mid.count new.count) → turned.exit ≡ Some x → i < n →
-      DoesRun layout image past old new x (event_in (note_or turned.program note) new.count) n returned shown events
+      DoesRun layout image past old new x (event_in layout (note_or turned.program note) new.count) n returned shown events
   leaves_any old mid new turned x ProgramNote.Plain i n returned shown events s d quiet left lt =
-      let P : ProgramNote → Type 0 = λ shown_note. DoesRun layout image past old new x (event_in shown_note new.count) n returned shown events in
-      subst P (sym (note_plain turned.program)) (leaves old mid new turned.exit (event_in turned.program new.count) x i n returned shown events s d left lt)
+      let P : ProgramNote → Type 0 = λ shown_note. DoesRun layout image past old new x (event_in layout shown_note new.count) n returned shown events in
+      subst P (sym (note_plain turned.program)) (leaves old mid new turned.exit (event_in layout turned.program new.count) x i n returned shown events s d left lt)
   leaves_any old mid new turned x (ProgramNote.Called b a) i n returned shown events s d quiet left lt =
       later_leaves old mid new turned x (ProgramNote.Called b a) (Event.Call (mid.count - 1) b a) i n returned shown events s d (quiet (λ e. cc)) refl left lt
   leaves_any old mid new turned x (ProgramNote.Trapped v) i n returned shown events s d quiet left lt =
       later_leaves old mid new turned x (ProgramNote.Trapped v) (Event.Trap mid.count v) i n returned shown events s d (quiet (λ e. cc)) refl left lt
   leaves_any old mid new turned x (ProgramNote.Faulted access) i n returned shown events s d quiet left lt =
-      later_leaves old mid new turned x (ProgramNote.Faulted access) (Event.Break mid.count) i n returned shown events s d (quiet (λ e. cc)) refl left lt
+      later_leaves old mid new turned x (ProgramNote.Faulted access) (fault_event layout access mid.count) i n returned shown events s d (quiet (λ e. cc)) refl left lt
 
   -- the turn goes on, by what was noted so far
   pub goes_on_any : (old mid new : State) (turned : Turned) (note : ProgramNote) (i : ℕ) (returned shown : List ℕ) (events : List Event) →
-      (s : RunsSoFar layout image past old mid (event_in note mid.count) i returned shown events) →
-      DoesTurn layout image past mid new turned.exit (event_in turned.program new.count) s.values shown (with_more events (event_in note mid.count)) →
+      (s : RunsSoFar layout image past old mid (event_in layout note mid.count) i returned shown events) →
+      DoesTurn layout image past mid new turned.exit (event_in layout turned.program new.count) s.values shown (with_more events (event_in layout note mid.count)) →
       ((note ≡ ProgramNote.Plain → ⊥) → QuietlyLeaves turned mid.count new.count) → turned.exit ≡ None →
-      RunsSoFar layout image past old new (event_in (note_or turned.program note) new.count) (i + 1) returned shown events
+      RunsSoFar layout image past old new (event_in layout (note_or turned.program note) new.count) (i + 1) returned shown events
   goes_on_any old mid new turned ProgramNote.Plain i returned shown events s d quiet gone =
-      let P : ProgramNote → Type 0 = λ shown_note. RunsSoFar layout image past old new (event_in shown_note new.count) (i + 1) returned shown events in
-      subst P (sym (note_plain turned.program)) (goes_on old mid new turned.exit (event_in turned.program new.count) i returned shown events s d gone)
+      let P : ProgramNote → Type 0 = λ shown_note. RunsSoFar layout image past old new (event_in layout shown_note new.count) (i + 1) returned shown events in
+      subst P (sym (note_plain turned.program)) (goes_on old mid new turned.exit (event_in layout turned.program new.count) i returned shown events s d gone)
   goes_on_any old mid new turned (ProgramNote.Called b a) i returned shown events s d quiet gone = absurd (left_quietly turned mid.count new.count (quiet (λ e. cc)) gone)
   goes_on_any old mid new turned (ProgramNote.Trapped v) i returned shown events s d quiet gone = absurd (left_quietly turned mid.count new.count (quiet (λ e. cc)) gone)
   goes_on_any old mid new turned (ProgramNote.Faulted access) i returned shown events s d quiet gone = absurd (left_quietly turned mid.count new.count (quiet (λ e. cc)) gone)

@@ -48,6 +48,7 @@ entry_exit (Stage.Raised x) = Some (Exit.Trapped x)
 entry_exit (Stage.Trapped x) = Some (Exit.Trapped x)
 entry_exit (Stage.Ended status) = Some (Exit.Ended status)
 entry_exit (Stage.Broken access) = Some Exit.Stopped
+entry_exit Stage.Denied = Some (Exit.Trapped 14)
 entry_exit Stage.Dead = Some Exit.Stopped
 
 -- the stage after a call left, and its exit
@@ -238,6 +239,25 @@ module _ (layout : Layout) (image : List ℕ) (past : History) (s : State) (retu
         sound = tt;
       }
 
+  -- the runtime finds that an access was denied
+  denied_at : (v : ℕ) → StandsAt (Activity.Entering Stage.Denied v) →
+      DoesTurn layout image past (at s (Activity.Entering Stage.Denied v)) (at s (Activity.Outside (Stage.Trapped 14))) (Some (Exit.Trapped 14)) None returned shown events
+  denied_at v st =
+      record {
+        stands = λ turns. record {
+          tape = st.tape;
+          outputs = st.outputs;
+          tables = tables_left layout past _ s.tables turns (Exit.Trapped 14) (Stage.Trapped 14) refl st.tables;
+          control = tt;
+          bytes = record { flat = st.bytes.flat; registers = st.bytes.registers; shows = st.bytes.shows; placed = st.bytes.placed };
+          reached = tt;
+        };
+        traced = λ later ok. runtime_is layout past (control_of layout (at s (Activity.Entering Stage.Denied v)) returned later) (Context.Entry 1 v) resident;
+        due = λ later ok. ok;
+        made = λ later ok. refl;
+        sound = tt;
+      }
+
   dead_at : (v : ℕ) → StandsAt (Activity.Entering Stage.Dead v) →
       DoesTurn layout image past (at s (Activity.Entering Stage.Dead v)) (at s (Activity.Outside Stage.Dead)) (Some Exit.Stopped) None returned shown events
   dead_at v st =
@@ -264,6 +284,7 @@ module _ (layout : Layout) (image : List ℕ) (past : History) (s : State) (retu
   entered (Stage.Trapped x) v = at s (Activity.Outside (Stage.Trapped x))
   entered (Stage.Ended status) v = at s (Activity.Outside (Stage.Ended status))
   entered (Stage.Broken access) v = at s (Activity.Outside Stage.Dead)
+  entered Stage.Denied v = at s (Activity.Outside (Stage.Trapped 14))
   entered Stage.Dead v = at s (Activity.Outside Stage.Dead)
 
   entry_at : (stage : Stage) (v : ℕ) → StandsAt (Activity.Entering stage v) →
@@ -274,6 +295,7 @@ module _ (layout : Layout) (image : List ℕ) (past : History) (s : State) (retu
   entry_at (Stage.Trapped x) v st = trapped_at x v st
   entry_at (Stage.Ended status) v st = ended_at status v st
   entry_at (Stage.Broken access) v st = broken_at access v st
+  entry_at Stage.Denied v st = denied_at v st
   entry_at Stage.Dead v st = dead_at v st
 
   -- the step after an entry

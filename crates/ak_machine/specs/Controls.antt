@@ -14,6 +14,7 @@ abbrev pub phase_in : Stage → Phase
 phase_in Stage.New = Phase.New
 phase_in (Stage.Raised v) = Phase.Running
 phase_in (Stage.Broken access) = Phase.Running
+phase_in Stage.Denied = Phase.Running
 phase_in Stage.Calling = Phase.Calling
 phase_in (Stage.Ended s) = Phase.Ended s
 phase_in (Stage.Trapped v) = Phase.Trapped v
@@ -24,6 +25,7 @@ abbrev pub stack_in : Stage → List Saved
 stack_in Stage.New = []
 stack_in (Stage.Raised v) = record { context = Context.Program; reason = Reason.Raised v } ∷ []
 stack_in (Stage.Broken access) = record { context = Context.Program; reason = Reason.Broke } ∷ []
+stack_in Stage.Denied = record { context = Context.Program; reason = Reason.Denied } ∷ []
 stack_in Stage.Calling = []
 stack_in (Stage.Ended s) = []
 stack_in (Stage.Trapped v) = guard ∷ []
@@ -38,6 +40,7 @@ cause_in _ = None
 abbrev pub pending_in : Stage → Bool
 pending_in (Stage.Raised v) = true
 pending_in (Stage.Broken access) = true
+pending_in Stage.Denied = true
 pending_in _ = false
 
 -- the phase
@@ -120,6 +123,7 @@ StageGoes Stage.New count returned events = IsFresh count returned events
 StageGoes Stage.Calling count returned events = IsGoing count events
 StageGoes (Stage.Raised v) count returned events = Unit {0}
 StageGoes (Stage.Broken access) count returned events = Unit {0}
+StageGoes Stage.Denied count returned events = Unit {0}
 StageGoes (Stage.Ended s) count returned events = Unit {0}
 StageGoes (Stage.Trapped v) count returned events = Unit {0}
 StageGoes Stage.Dead count returned events = Unit {0}

@@ -23,17 +23,18 @@ use Rattle.ak_machine.specs.declared.applied.ProgramNote.{ProgramNote}
 use Rattle.ak_machine.specs.declared.applied.RuntimeNote.{RuntimeNote}
 use Rattle.ak_machine.specs.State.{State}
 use Rattle.ak_machine.specs.Controls.{control_of, context_at}
+use Rattle.ak_machine.specs.Faults.{fault_event}
 use Rattle.ak_machine.specs.Stands.{Stands, output_in}
 use Rattle.ak_machine.specs.SoundTurns.{AreSound, made_by}
 
 -- ---- Notes
 
 -- the event that a program note stands for, where so many instructions are complete after it
-abbrev pub event_in : ProgramNote → ℕ → Option Event
-event_in ProgramNote.Plain count = None
-event_in (ProgramNote.Called b a) count = Some (Event.Call (count - 1) b a)
-event_in (ProgramNote.Trapped v) count = Some (Event.Trap count v)
-event_in (ProgramNote.Faulted access) count = Some (Event.Break count)
+abbrev pub event_in : Layout → ProgramNote → ℕ → Option Event
+event_in layout ProgramNote.Plain count = None
+event_in layout (ProgramNote.Called b a) count = Some (Event.Call (count - 1) b a)
+event_in layout (ProgramNote.Trapped v) count = Some (Event.Trap count v)
+event_in layout (ProgramNote.Faulted access) count = Some (fault_event layout access count)
 
 -- the runtime notes the end of an enclave whose program broke, by the access that was saved
 abbrev pub stage_note : Stage → RuntimeNote

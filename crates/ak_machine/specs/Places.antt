@@ -38,6 +38,7 @@ abbrev pub StagePlaced : Stage → Layout → List ℕ → Flat → ℕ → List
 StagePlaced Stage.New layout image flat count returned = flat.bytes ≡ image
 StagePlaced (Stage.Raised v) layout image flat count returned = IsRaised layout image flat count returned v
 StagePlaced (Stage.Broken access) layout image flat count returned = Reaches layout image returned count flat
+StagePlaced Stage.Denied layout image flat count returned = IsRaised layout image flat count returned 14
 StagePlaced Stage.Calling layout image flat count returned = IsCalling layout image flat count returned
 StagePlaced (Stage.Ended s) layout image flat count returned = IsAfterCall layout image flat count returned 0 s
 StagePlaced (Stage.Trapped v) layout image flat count returned = IsRaised layout image flat count returned v

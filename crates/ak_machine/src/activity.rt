@@ -11,6 +11,8 @@ pub enum Stage {
     Raised(u8),
     /// It was left by this access, which no walk found; it is saved and not dealt with yet.
     Broken(Fault),
+    /// It was left by an access that its page does not allow; that is saved and not dealt with yet.
+    Denied,
     /// It made a call that is not answered yet.
     Calling,
     /// It has ended, with this status.

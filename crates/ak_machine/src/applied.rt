@@ -11,7 +11,7 @@ pub enum ProgramNote {
     Called(u64, u64),
     /// Its next instruction gives this vector.
     Trapped(u8),
-    /// Its next instruction makes this access, which faulted.
+    /// Its next instruction makes this access, which faulted: no walk found it, or its page does not allow it.
     Faulted(Fault),
 }
 

@@ -70,7 +70,7 @@ impl Machine {
         requires room { (state_of self.old).count + turns < 2 ^ 64 }
         ensures layout { layout_of self.new ≡ layout_of self.old }
         ensures moved { IsMove (layout_of self.old) (state_of self.old) (state_of self.new) (Move.Run lp turns) result.answer
-            (event_in result.program (state_of self.new).count) }
+            (event_in (layout_of self.old) result.program (state_of self.new).count) }
         ensures runtime { result.runtime ≡ note_of_move (Move.Run lp turns) (state_of self.old).activity }
         ensures completed { (state_of self.new).count ≡ (state_of self.old).count + result.completed }
         ensures few { result.completed ≤ turns }
@@ -96,7 +96,7 @@ impl Machine {
 
         // The answer is that of the definitions, and the relation is kept.
         ensures moved { IsMove (layout_of self.old) (state_of self.old) (state_of self.new) m.now result.answer
-            (event_in result.program (state_of self.new).count) }
+            (event_in (layout_of self.old) result.program (state_of self.new).count) }
         ensures runtime { result.runtime ≡ note_of_move m.now (state_of self.old).activity }
         ensures completed { (state_of self.new).count ≡ (state_of self.old).count + result.completed }
         ensures few { result.completed ≤ 1000000 }

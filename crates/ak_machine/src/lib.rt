@@ -8,8 +8,10 @@ mod build;
 mod kernel;
 mod machine;
 mod memory;
+mod permission;
 #[cfg(test)]
 mod tests;
 
 pub use applied::{Applied, ProgramNote, RuntimeNote};
 pub use machine::Machine;
+pub use permission::is_forbidden;

@@ -7,14 +7,19 @@ ghost use Rattle.ak_model.specs.Flat.{zeroed};
 ghost use Rattle.ak_model.specs.History.{History};
 ghost use Rattle.ak_model.specs.Walk.{walkable as walkable_lem};
 ghost use Rattle.ak_machine.specs.FirstImage.{IsOnePageLayout};
+ghost use Rattle.ak_machine.specs.Faults.{fault_stage};
 ghost use Rattle.ak_machine.specs.Turning.{note_or};
 
 use crate::activity::{Activity, Stage};
 use crate::applied::{ProgramNote, Ran, RuntimeNote, Turned};
 use crate::memory::Memory;
+use crate::permission::is_forbidden;
 use ak_core::{Exit, Fault, Kind, Layout, Mode, Page, Regs, StopCause};
 use ak_exec::{Turn, exec};
 use ak_walk::mask;
+
+/// The vector of a page fault (SDM volume 3A, "Interrupt 14").
+const PAGE_FAULT: u8 = 14;
 
 /// One enclave: its pages in frames, the kernel's page table, and its processor.
 #[derive(Drop)]
@@ -46,6 +51,17 @@ pub(crate) fn zeroed_at(rip: u64) -> Regs
         sf: false,
         of: false,
         mode: Mode::Program,
+    }
+}
+
+/// The stage at which the program is left by an access that faults.
+fn left_at(layout: &Layout, access: Fault) -> Stage
+    ensures { result ≡ fault_stage layout.now access }
+{
+    if is_forbidden(layout, access) {
+        Stage::Denied
+    } else {
+        Stage::Broken(access)
     }
 }
 
@@ -102,7 +118,7 @@ impl Machine {
         requires running { self.old.activity ≡ Activity.Running }
         ensures layout { self.new.layout ≡ self.old.layout }
         ensures turn { IsTurn self.old.layout (state_of self.old) (state_of self.new) result.exit
-            (event_in result.program self.new.count) }
+            (event_in self.old.layout result.program self.new.count) }
         ensures calls { (result.program ≡ ProgramNote.Plain → ⊥) → result.exit ≡ None → is_leaving self.new.activity ≡ true }
         ensures runtime { result.runtime ≡ RuntimeNote.Quiet }
         ensures steps { runtime_note self.new.activity ≡ RuntimeNote.Quiet }
@@ -138,7 +154,7 @@ impl Machine {
                 }
             }
             Turn::Faulted(access) => {
-                self.activity = Activity::Outside(Stage::Broken(access));
+                self.activity = Activity::Outside(left_at(&self.layout, access));
                 Turned {
                     exit: Some(mask(self.layout.base())),
                     program: ProgramNote::Faulted(access),
@@ -213,6 +229,7 @@ impl Machine {
                 }
             }
             Stage::Dead => self.leave(Stage::Dead, Exit::Stopped),
+            Stage::Denied => self.leave(Stage::Trapped(PAGE_FAULT), Exit::Trapped(PAGE_FAULT)),
         }
     }
 
@@ -240,7 +257,7 @@ impl Machine {
         requires inside { is_inside self.old.activity ≡ true }
         ensures layout { self.new.layout ≡ self.old.layout }
         ensures turn { IsTurn self.old.layout (state_of self.old) (state_of self.new) result.exit
-            (event_in result.program self.new.count) }
+            (event_in self.old.layout result.program self.new.count) }
         ensures leaves { is_leaving self.old.activity ≡ true → QuietlyLeaves result (self.old.count) (self.new.count) }
         ensures calls { (result.program ≡ ProgramNote.Plain → ⊥) → result.exit ≡ None → is_leaving self.new.activity ≡ true }
         ensures runtime { result.runtime ≡ runtime_note self.old.activity }
@@ -266,7 +283,7 @@ impl Machine {
         requires some { 1 ≤ turns }
         ensures layout { self.new.layout ≡ self.old.layout }
         ensures run { IsRun self.old.layout (state_of self.old) (state_of self.new) result.exit
-            (event_in result.program self.new.count) turns }
+            (event_in self.old.layout result.program self.new.count) turns }
         ensures runtime { result.runtime ≡ runtime_note self.old.activity }
         ensures left { is_inside self.new.activity ≡ is_still result.exit }
         ensures grows { self.old.count ≤ self.new.count }

@@ -3,7 +3,7 @@ ghost use Rattle.std.specs.Prelude.{◌≡◌, ◌+◌, ◌<◌, ◌≤◌, ◌^
 ghost use Rattle.ak_machine.specs.Served.{is_served};
 ghost use Rattle.ak_machine.specs.State.{state_of};
 
-use crate::{Applied, Machine, ProgramNote, RuntimeNote};
+use crate::{Applied, Machine, ProgramNote, RuntimeNote, is_forbidden};
 use ak_core::{Answer, Exit, Fault, Flags, Frame, Kind, Lp, Move, OutOfMemory, Page, StopCause};
 use std::alloc::Global;
 use std::process::Abort;
@@ -52,6 +52,9 @@ fn gives(rt: &impl Abort, machine: &mut Machine, m: Move, answer: Answer) -> App
     applied
 }
 
+/// Puts RAX into memory at 0x10000100, which is code.
+const STORE: [u8; 7] = [0x48, 0x89, 0x83, 0, 1, 0, 0x10];
+
 /// With this entry, the first instruction's fetch faults, and the entry is as it was set.
 fn faults_with(rt: &impl Abort, machine: &mut Machine, frame: Frame, flags: Flags)
     requires { (state_of machine.old).count + 5000000 < 2 ^ 64 }
@@ -77,6 +80,51 @@ fn faults_with(rt: &impl Abort, machine: &mut Machine, frame: Frame, flags: Flag
 fn breaks_and_stops(rt: HostRuntime) -> Result<(), Fail> {
     let mut m = built(rt.alloc())?;
     faults_with(&rt, &mut m, Frame(8), BARE);
+    Ok(())
+}
+
+#[test]
+fn a_denied_access_traps(rt: HostRuntime) -> Result<(), Fail> {
+    let mut m = Machine::build(rt.alloc(), &STORE)?;
+    gives(&rt, &mut m, Move::Eenter(Lp(0), 0), Answer::Ok);
+    let applied = gives(&rt, &mut m, Move::Run(Lp(0), 10), FAULT);
+    let access = Fault {
+        page: Page(0),
+        kind: Kind::Write,
+    };
+    assert_eq!(rt; applied.program, ProgramNote::Faulted(access));
+    assert!(rt; is_forbidden(m.layout(), access));
+    gives(&rt, &mut m, Move::Eenter(Lp(0), 0), Answer::Ok);
+    let trapped = Answer::Exit(Exit::Trapped(14));
+    let applied = gives(&rt, &mut m, Move::Run(Lp(0), 10), trapped);
+    assert_eq!(rt; applied.runtime, RuntimeNote::Quiet);
+    let stored = m.bytes(Page(0)).map(|bytes| bytes.get(256).copied());
+    assert_eq!(rt; stored, Some(Some(0)));
+    Ok(())
+}
+
+/// What each page of the enclave allows.
+#[test]
+fn pages_allow(rt: HostRuntime) -> Result<(), Fail> {
+    let m = built(rt.alloc())?;
+    for (page, r, w, x) in [
+        (0, true, false, true),
+        (1, false, false, false),
+        (2, true, true, false),
+        (4, true, true, false),
+        (5, true, true, false),
+        (6, true, false, true),
+        (7, false, false, false),
+        (u32::MAX, false, false, false),
+    ] {
+        for (kind, is_allowed) in [(Kind::Read, r), (Kind::Write, w), (Kind::Exec, x)] {
+            let access = Fault {
+                page: Page(page),
+                kind,
+            };
+            assert_eq!(rt; is_forbidden(m.layout(), access), !is_allowed, "{page}");
+        }
+    }
     Ok(())
 }
 

@@ -9,9 +9,12 @@ ghost use Rattle.ak_machine.specs.Moves.{output_of_answer, event_in};
 ghost use Rattle.ak_top.specs.Faithful.{Faithful};
 ghost use Rattle.ak_top.specs.Steps.{IsJournalOn};
 
-use ak_core::{Answer, Event, Exit, Journal, Move, OutOfMemory};
-use ak_machine::{Machine, ProgramNote};
+use ak_core::{Answer, Event, Exit, Journal, Layout, Move, OutOfMemory};
+use ak_machine::{Machine, ProgramNote, is_forbidden};
 use std::alloc::Global;
+
+/// The vector of a page fault (SDM volume 3A, "Interrupt 14").
+const PAGE_FAULT: u8 = 14;
 
 /// A machine, and the journal of the moves that it was given.
 #[derive(Drop)]
@@ -35,9 +38,10 @@ fn output_of(answer: Answer) -> Option<u64>
     }
 }
 
-/// The event that a note stands for, where so many instructions are complete after it.
-fn event_of(note: ProgramNote, count: u64) -> Option<Event>
-    ensures { result ≡ event_in note count }
+/// The event that a note stands for, where so many instructions are complete after it: a denied access is a page fault of
+/// the program's own.
+fn event_of(layout: &Layout, note: ProgramNote, count: u64) -> Option<Event>
+    ensures { result ≡ event_in layout.now note count }
 {
     match note {
         ProgramNote::Plain => None,
@@ -45,6 +49,9 @@ fn event_of(note: ProgramNote, count: u64) -> Option<Event>
             Some(Event::Call(count.saturating_sub(1), number, argument))
         }
         ProgramNote::Trapped(vector) => Some(Event::Trap(count, vector)),
+        ProgramNote::Faulted(access) if is_forbidden(layout, access) => {
+            Some(Event::Trap(count, PAGE_FAULT))
+        }
         ProgramNote::Faulted(_) => Some(Event::Break(count)),
     }
 }
@@ -82,13 +89,9 @@ impl Session {
         self.journal.reserve()?;
         let applied = self.machine.apply(&m);
         self.count += applied.completed;
-        self.journal.append(
-            m,
-            applied.answer,
-            event_of(applied.program, self.count),
-            output_of(applied.answer),
-            None,
-        );
+        let event = event_of(self.machine.layout(), applied.program, self.count);
+        self.journal
+            .append(m, applied.answer, event, output_of(applied.answer), None);
         Ok(())
     }
 }

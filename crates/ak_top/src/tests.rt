@@ -128,9 +128,60 @@ fn reports(rt: HostRuntime) -> Result<(), Fail> {
         ),
         // A vector, entered again and again.
         (
-            b"\x90",
+            b"\x06",
             b"eenter 0 0\nrun 0 1\nrun 0 1\neenter 0 0\nrun 0 1\neenter 0 0\nrun 0 1\n",
             "autarky 1\n1 eenter 0 0 -> ok\n2 run 0 1 -> in\n3 run 0 1 -> vector 6\n4 eenter 0 0 -> ok\n5 run 0 1 -> trapped 6\n6 eenter 0 0 -> ok\n7 run 0 1 -> trapped 6\nevent trap 0 6\n",
+        ),
+    ];
+    for (image, script, report) in cases {
+        let (status, out, err) = ran(rt.alloc(), image, script)?;
+        assert_eq!(rt; out.taken(), report.as_bytes(), "{report}");
+        assert_eq!(rt; err.taken(), b"".as_slice(), "{report}");
+        assert_eq!(rt; status, 0, "{report}");
+    }
+    Ok(())
+}
+
+/// RAX goes to 0x10000100, a place in the program's own code.
+const STORE: &[u8] = b"\x48\x89\x83\0\x01\0\x10";
+
+/// RSP 0x10000100, PUSH RAX.
+const PUSH: &[u8] = b"\x48\xbc\0\x01\0\x10\0\0\0\0\x50";
+
+/// RSI becomes the first 8 bytes of the code, RDI 1, RAX 4, ENCLU: an output of RSI.
+const LOAD: &[u8] =
+    b"\x48\x8b\xb3\0\0\0\x10\x48\xbf\x01\0\0\0\0\0\0\0\x48\xb8\x04\0\0\0\0\0\0\0\x0f\x01\xd7";
+
+#[test]
+fn code_is_not_written(rt: HostRuntime) -> Result<(), Fail> {
+    let cases: [(&[u8], &[u8], &str); 5] = [
+        (
+            STORE,
+            b"eenter 0 0\nrun 0 10\neenter 0 0\nrun 0 10\n",
+            "autarky 1\n1 eenter 0 0 -> ok\n2 run 0 10 -> pf 268435456 4\n3 eenter 0 0 -> ok\n4 run 0 10 -> trapped 14\nevent trap 0 14\n",
+        ),
+        // Whatever the page table says. The enclave has not stopped, but the program goes on no more.
+        (
+            STORE,
+            b"setpte 0 8 pwxad\neenter 0 0\nrun 0 1\nrun 0 1\nrun 0 1\nsetpte 0 8 -\neenter 0 0\nrun 0 1\neenter 0 0\nrun 0 1\n",
+            "autarky 1\n1 setpte 0 8 pwxad -> ok\n2 eenter 0 0 -> ok\n3 run 0 1 -> in\n4 run 0 1 -> pf 268435456 4\n5 run 0 1 -> outside\n6 setpte 0 8 - -> ok\n7 eenter 0 0 -> ok\n8 run 0 1 -> trapped 14\n9 eenter 0 0 -> ok\n10 run 0 1 -> trapped 14\nevent trap 0 14\n",
+        ),
+        // The fetch comes first: where no walk finds it, that is a break.
+        (
+            STORE,
+            b"setpte 0 8 pwad\neenter 0 0\nrun 0 10\neenter 0 0\nrun 0 10\n",
+            "autarky 1\n1 setpte 0 8 pwad -> ok\n2 eenter 0 0 -> ok\n3 run 0 10 -> pf 268435456 4\n4 eenter 0 0 -> ok\n5 run 0 10 -> stopped\nevent break 0\n",
+        ),
+        (
+            PUSH,
+            b"eenter 0 0\nrun 0 10\neenter 0 0\nrun 0 10\n",
+            "autarky 1\n1 eenter 0 0 -> ok\n2 run 0 10 -> pf 268435456 4\n3 eenter 0 0 -> ok\n4 run 0 10 -> trapped 14\nevent trap 1 14\n",
+        ),
+        // It is read.
+        (
+            LOAD,
+            b"eenter 0 0\nrun 0 10\n",
+            "autarky 1\n1 eenter 0 0 -> ok\n2 run 0 10 -> call 1 5192650370369948488\noutput 5192650370369948488\nevent call 3 1 5192650370369948488\n",
         ),
     ];
     for (image, script, report) in cases {

@@ -50,3 +50,10 @@ returns-in-Raised-clause-turn c = λ image past returned shown events st.
     let m = c.args.self.now in
     entry_trap m.layout image past (state_of m) returned shown events m.served.resident (state_of c.leave-in-Raised.new.self) c.args.stage c.in-Raised.vector c.args.value c.leave-in-Raised.result.exit
     c.in-Raised.is c.requires.entering c.leave-in-Raised.ensures.state (ap (λ (t : Turned). t.exit) c.leave-in-Raised.ensures.turned) st
+
+pub returns-in-Denied-clause-turn : goal.returns-in-Denied-clause-turn
+returns-in-Denied-clause-turn c = λ image past returned shown events st.
+    let m = c.args.self.now in
+    entry m.layout image past (state_of m) returned shown events m.served.resident (state_of c.leave-in-Denied.new.self) Stage.Denied c.args.value c.leave-in-Denied.result.exit
+    (c.requires.entering ∙ ap (λ stage. Activity.Entering stage c.args.value) c.in-Denied.is)
+    c.leave-in-Denied.ensures.state (ap (λ (t : Turned). t.exit) c.leave-in-Denied.ensures.turned) st

@@ -6,9 +6,10 @@ use Rattle.ak_machine.specs.declared.activity.Stage.{Stage}
 use Rattle.ak_machine.specs.declared.activity.Activity.{Activity}
 use Rattle.ak_machine.specs.Memory.{tables_of, bytes_of}
 use Rattle.ak_machine.specs.State.{State, state_of}
+use Rattle.ak_machine.specs.Faults.{fault_event}
 use Rattle.ak_machine.specs.Moves.{DoesTurn}
-use Rattle.ak_machine.proofs.OneTouch.{vector_other}
-use Rattle.ak_machine.proofs.ProgramTurns.{done, called, raised, broken}
+use Rattle.ak_machine.proofs.Refused.{vector_other}
+use Rattle.ak_machine.proofs.ProgramTurns.{done, called, raised, faulted}
 use Rattle.ak_machine.proofs.machine.Machine.program_turn.Goals as goal
 
 pub returns-in-Done-clause-turn : goal.returns-in-Done-clause-turn
@@ -47,16 +48,20 @@ pub returns-in-Faulted-clause-turn : goal.returns-in-Faulted-clause-turn
 returns-in-Faulted-clause-turn c = λ image past returned shown events st.
     let m = c.args.self.now in
     let n = c.exec.new.mem in
-    let new : State = record {
-      activity = Activity.Outside (Stage.Broken c.in-Faulted.access);
+    let access = c.in-Faulted.access in
+    let left : Stage → State = λ stage. record {
+      activity = Activity.Outside stage;
       regs = c.exec.new.regs;
       count = m.count;
       tables = tables_of n.table n.epcm;
       bytes = bytes_of n.frames.items n.epcm;
     } in
-    let P : Exit → Type 0 = λ exit. DoesTurn m.layout image past (state_of m) new (Some exit) (Some (Event.Break m.count)) returned shown events in
+    let event = Some (fault_event m.layout access m.count) in
+    let S : Stage → Type 0 = λ stage. DoesTurn m.layout image past (state_of m) (left stage) (Some (Exit.Pf m.layout.base 4)) event returned shown events in
+    let P : Exit → Type 0 = λ exit. DoesTurn m.layout image past (state_of m) (left c.left_at.result) (Some exit) event returned shown events in
     let exit : Exit.Pf m.layout.base 4 ≡ c.mask.result = sym (c.mask.ensures ∙ ap (λ base. Exit.Pf base 4) c.base.ensures.base) in
     subst P exit
-    (broken m.layout image past (state_of m) returned shown events c.in-Faulted.access c.exec.new.regs (tables_of n.table n.epcm) (bytes_of n.frames.items n.epcm) n.touched.items
+    (subst S (sym c.left_at.ensures)
+    (faulted m.layout image past (state_of m) returned shown events access c.exec.new.regs (tables_of n.table n.epcm) (bytes_of n.frames.items n.epcm) n.touched.items
     m.served c.requires.running c.in-Faulted.ensures.same_registers c.in-Faulted.ensures.tables c.in-Faulted.ensures.same_bytes
-    c.in-Faulted.ensures.line n.found (n.lost c.in-Faulted.access c.in-Faulted.ensures.refused) st)
+    c.in-Faulted.ensures.line n.found (n.lost access c.in-Faulted.ensures.refused) st))

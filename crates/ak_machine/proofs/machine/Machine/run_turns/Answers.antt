@@ -15,10 +15,10 @@ returns-in-Some-clause-run c = λ image past returned shown events st.
     let mid = c.loop-turn.self in
     let new = c.turn-turned.new.self in
     let s = c.loop-turn.invariant.run image past returned shown events st in
-    let now = with_more events (event_in c.loop-turn.program mid.count) in
+    let now = with_more events (event_in first.layout c.loop-turn.program mid.count) in
     let P : Layout → Type 0 = λ l. Stands l image past (state_of mid) s.values shown now →
-    DoesTurn l image past (state_of mid) (state_of new) c.turn-turned.result.exit (event_in c.turn-turned.result.program new.count) s.values shown now in
-    let N : ProgramNote → Type 0 = λ note. DoesRun first.layout image past (state_of first) (state_of new) c.in-Some.exit (event_in note new.count) c.args.turns returned shown events in
+    DoesTurn l image past (state_of mid) (state_of new) c.turn-turned.result.exit (event_in l c.turn-turned.result.program new.count) s.values shown now in
+    let N : ProgramNote → Type 0 = λ note. DoesRun first.layout image past (state_of first) (state_of new) c.in-Some.exit (event_in first.layout note new.count) c.args.turns returned shown events in
     subst N (sym c.later_note-program.ensures)
     (leaves_any first.layout image past (state_of first) (state_of mid) (state_of new) c.turn-turned.result c.in-Some.exit c.loop-turn.program c.loop-turn._turn c.args.turns returned shown events s
     (subst P c.loop-turn.invariant.layout (c.turn-turned.ensures.turn image past s.values shown now) s.stands)
@@ -31,10 +31,10 @@ loop-turn-preserved c = record {
       let mid = c.loop-turn.self in
       let new = c.turn-turned.new.self in
       let s = c.loop-turn.invariant.run image past returned shown events st in
-      let now = with_more events (event_in c.loop-turn.program mid.count) in
+      let now = with_more events (event_in first.layout c.loop-turn.program mid.count) in
       let P : Layout → Type 0 = λ l. Stands l image past (state_of mid) s.values shown now →
-      DoesTurn l image past (state_of mid) (state_of new) c.turn-turned.result.exit (event_in c.turn-turned.result.program new.count) s.values shown now in
-      let N : ProgramNote → Type 0 = λ note. RunsSoFar first.layout image past (state_of first) (state_of new) (event_in note new.count) (c.loop-turn._turn + 1) returned shown events in
+      DoesTurn l image past (state_of mid) (state_of new) c.turn-turned.result.exit (event_in l c.turn-turned.result.program new.count) s.values shown now in
+      let N : ProgramNote → Type 0 = λ note. RunsSoFar first.layout image past (state_of first) (state_of new) (event_in first.layout note new.count) (c.loop-turn._turn + 1) returned shown events in
       subst N (sym c.later_note-program.ensures)
       (goes_on_any first.layout image past (state_of first) (state_of mid) (state_of new) c.turn-turned.result c.loop-turn.program c.loop-turn._turn returned shown events s
       (subst P c.loop-turn.invariant.layout (c.turn-turned.ensures.turn image past s.values shown now) s.stands)
@@ -53,5 +53,5 @@ loop-turn-preserved c = record {
 pub returns-clause-run : goal.returns-clause-run
 returns-clause-run c = λ image past returned shown events st.
     let e : c.loop-turn._turn ≡ c.args.turns = omega arith in
-    still c.args.self.now.layout image past (state_of c.args.self.now) (state_of c.loop-turn.self) (event_in c.loop-turn.program c.loop-turn.self.count) c.args.turns returned shown events
+    still c.args.self.now.layout image past (state_of c.args.self.now) (state_of c.loop-turn.self) (event_in c.args.self.now.layout c.loop-turn.program c.loop-turn.self.count) c.args.turns returned shown events
     (rw e at (c.loop-turn.invariant.run image past returned shown events st))

@@ -12,7 +12,7 @@ use Rattle.ak_machine.proofs.machine.Machine.run_turns.Given as goal
 abbrev pub invariant-loop-turn : goal.invariant-loop-turn
 invariant-loop-turn l = record {
   run : (image : List ℕ) (past : History) (returned shown : List ℕ) (events : List Event) → Stands l.initial.self.layout image past (state_of l.initial.self) returned shown events →
-      RunsSoFar l.initial.self.layout image past (state_of l.initial.self) (state_of l.self) (event_in l.program l.self.count) l._turn returned shown events;
+      RunsSoFar l.initial.self.layout image past (state_of l.initial.self) (state_of l.self) (event_in l.initial.self.layout l.program l.self.count) l._turn returned shown events;
   leaving : (l.program ≡ ProgramNote.Plain → ⊥) → is_leaving l.self.activity ≡ true;
   grows : l.initial.self.count ≤ l.self.count;
   count : l.self.count ≤ l.initial.self.count + l._turn;

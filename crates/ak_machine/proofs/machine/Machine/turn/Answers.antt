@@ -8,12 +8,12 @@ pub returns-in-Entering-clause-turn : goal.returns-in-Entering-clause-turn
 returns-in-Entering-clause-turn c = λ image past returned shown events st.
     let m = c.args.self.now in
     let n = c.entry_turn.new.self in
-    let P : ProgramNote → Type 0 = λ note. DoesTurn m.layout image past (state_of m) (state_of n) c.entry_turn.result.exit (event_in note n.count) returned shown events in
+    let P : ProgramNote → Type 0 = λ note. DoesTurn m.layout image past (state_of m) (state_of n) c.entry_turn.result.exit (event_in m.layout note n.count) returned shown events in
     subst P (sym c.entry_turn.ensures.quiet) (c.entry_turn.ensures.turn image past returned shown events st)
 
 pub returns-in-Leaving-clause-turn : goal.returns-in-Leaving-clause-turn
 returns-in-Leaving-clause-turn c = λ image past returned shown events st.
     let m = c.args.self.now in
     let n = c.leave_turn.new.self in
-    let P : ProgramNote → Type 0 = λ note. DoesTurn m.layout image past (state_of m) (state_of n) c.leave_turn.result.exit (event_in note n.count) returned shown events in
+    let P : ProgramNote → Type 0 = λ note. DoesTurn m.layout image past (state_of m) (state_of n) c.leave_turn.result.exit (event_in m.layout note n.count) returned shown events in
     subst P (sym c.leave_turn.ensures.quiet) (c.leave_turn.ensures.turn image past returned shown events st)
