@@ -1,0 +1,5 @@
+mod Rows
+pub mod Comparing
+pub mod Cutting
+pub mod Digits
+pub mod Reading

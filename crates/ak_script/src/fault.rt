@@ -1,0 +1,73 @@
+// Why a script is refused.
+ghost use Rattle.std.specs.Prelude.{◌≡◌};
+
+use std::alloc::AllocFailed;
+
+/// Why a line of a script is refused.
+#[derive(Clone, Copy, PartialEq, Eq, Debug)]
+pub enum Kind {
+    /// It has a byte over 127.
+    NotAscii = 1,
+    /// Its first word is none of a script's words.
+    Unknown = 2,
+    /// Another number of words follows the first.
+    Words = 3,
+    /// A word is to be a number and is none.
+    Number = 4,
+    /// A number is out of its range.
+    Range = 5,
+    /// With this line the moves, or their turns, are too many.
+    TooMany = 6,
+    /// A word is to be flags and is none.
+    Flags = 7,
+}
+
+impl Kind {
+    ghost use Rattle.ak_script.specs.Kind.{number_of, word_of};
+
+    /// The number of the refusal.
+    pub fn number(self) -> u8
+        ensures { result ≡ number_of self }
+    {
+        self as u8
+    }
+
+    /// The word of the refusal.
+    pub fn word(self) -> &'static str
+        ensures { result.now ≡ word_of self }
+    {
+        match self {
+            Kind::NotAscii => "notascii",
+            Kind::Unknown => "unknown",
+            Kind::Words => "words",
+            Kind::Number => "number",
+            Kind::Range => "range",
+            Kind::TooMany => "toomany",
+            Kind::Flags => "flags",
+        }
+    }
+}
+
+/// Why no script was read.
+#[derive(Clone, Copy, PartialEq, Eq, Debug)]
+pub enum ScriptFault {
+    /// The first refused line, counted from 1.
+    Refused {
+        /// The line.
+        line: u32,
+        /// Why it is refused.
+        why: Kind,
+    },
+    /// Memory ran out.
+    OutOfMemory,
+}
+
+impl<T: Drop> From<AllocFailed<T>> for ScriptFault {
+    ghost use Rattle.ak_script.specs.declared.fault.ScriptFault.TheVariants.{OutOfMemory};
+
+    ghost from_gives = { λ _ fault. fault ≡ OutOfMemory };
+
+    fn from(_failed: AllocFailed<T>) -> ScriptFault {
+        ScriptFault::OutOfMemory
+    }
+}

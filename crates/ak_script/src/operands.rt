@@ -1,0 +1,99 @@
+// What the words after the first one mean.
+ghost use Rattle.std.specs.Prelude.{◌≡◌, ◌<◌, ◌≤◌, ◌^◌, IfOk, IsTrue, SomeIff};
+ghost use Rattle.std.specs.Char.{is_ascii_digit};
+ghost use Rattle.std.specs.List.{list_all};
+ghost use Rattle.ak_script.specs.Operand.{PAGE, FRAME, LP, VALUE, TURNS, meaning_of, number_in as the_number};
+ghost use Rattle.ak_script.specs.Words.{decimal as the_decimal, is_number as the_test};
+
+use crate::fault::Kind;
+use ak_core::{Frame, Lp, Page};
+
+// The most turns of one move.
+const MOST_TURNS: u64 = 1_000_000;
+
+// The last processor.
+const LAST_LP: u64 = 3;
+
+/// A page.
+pub fn page_of(word: &[u8]) -> Result<Page, Kind>
+    ensures { result ≡ meaning_of PAGE word.now }
+{
+    let number = number_in(word, 0, u64::from(u32::MAX))?;
+    Ok(Page(number as u32))
+}
+
+/// A frame.
+pub fn frame_of(word: &[u8]) -> Result<Frame, Kind>
+    ensures { result ≡ meaning_of FRAME word.now }
+{
+    let number = number_in(word, 0, u64::from(u32::MAX))?;
+    Ok(Frame(number as u32))
+}
+
+/// A processor.
+pub fn lp_of(word: &[u8]) -> Result<Lp, Kind>
+    ensures value { result ≡ meaning_of LP word.now }
+    ensures range { IfOk result (λ lp. lp.0 ≤ 3) }
+{
+    let number = number_in(word, 0, LAST_LP)?;
+    Ok(Lp(number as u8))
+}
+
+/// A value for the enclave.
+pub fn value_of(word: &[u8]) -> Result<u64, Kind>
+    ensures { result ≡ meaning_of VALUE word.now }
+{
+    number_in(word, 0, u64::MAX)
+}
+
+/// A number of turns.
+pub fn turns_of(word: &[u8]) -> Result<u32, Kind>
+    ensures value { result ≡ meaning_of TURNS word.now }
+    ensures least { IfOk result (λ turns. 1 ≤ turns) }
+    ensures most { IfOk result (λ turns. turns ≤ 1000000) }
+{
+    let number = number_in(word, 1, MOST_TURNS)?;
+    Ok(number as u32)
+}
+
+// A number in a range.
+fn number_in(word: &[u8], least: u64, most: u64) -> Result<u64, Kind>
+    ensures value { result ≡ the_number least most word.now }
+    ensures least { IfOk result (λ number. least ≤ number) }
+    ensures most { IfOk result (λ number. number ≤ most) }
+{
+    if !is_number(word) {
+        return Err(Kind::Number);
+    }
+    match decimal(word) {
+        Some(number) if (least..=most).contains(&number) => Ok(number),
+        _ => Err(Kind::Range),
+    }
+}
+
+// Whether a word is decimal digits, at least one, and no 0 before others.
+fn is_number(word: &[u8]) -> bool
+    ensures { result ≡ the_test word.now }
+{
+    !word.is_empty() && are_digits(word) && (word.len() == 1 || word[0] != b'0')
+}
+
+fn are_digits(word: &[u8]) -> bool
+    ensures { result ≡ list_all is_ascii_digit word.now }
+{
+    word.iter().all(|b| b.is_ascii_digit())
+}
+
+// The number that digits make, if it is below 2^64.
+fn decimal(digits: &[u8]) -> Option<u64>
+    requires { IsTrue (list_all is_ascii_digit digits.now) }
+    ensures { SomeIff result (the_decimal digits.now < 2 ^ 64) (the_decimal digits.now) }
+{
+    let mut number = 0u64;
+    for digit in digits {
+        number = number
+            .checked_mul(10)?
+            .checked_add(u64::from(*digit - b'0'))?;
+    }
+    Some(number)
+}
