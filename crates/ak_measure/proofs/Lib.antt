@@ -1,0 +1,15 @@
+pub mod BlockLists
+pub mod BlockLengths
+pub mod BlockRows
+pub mod Documents
+pub mod Reading
+pub mod SpelledDigests
+pub mod Repeats
+pub mod Places
+pub mod Names
+pub mod NamesInOrder
+pub mod NamedEntries
+pub mod ReadSigners
+pub mod SignerRows
+pub mod KnownNames
+pub mod BlockContents

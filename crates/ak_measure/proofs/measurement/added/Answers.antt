@@ -1,0 +1,8 @@
+-- Each write replaces the zeros in its place.
+use Rattle.std.proofs.Common.{refl}
+use Rattle.ak_measure.specs.Blocks.{add_block}
+use Rattle.ak_measure.proofs.measurement.added.Goals as goal
+
+pub returns : goal.returns
+unfolding add_block
+returns c = rw (c.write_u64-2.ensures, c.write_u64.ensures, c.copy_from_slice.ensures.after) refl

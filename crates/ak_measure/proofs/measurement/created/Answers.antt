@@ -1,0 +1,8 @@
+-- Each write replaces the zeros in its place.
+use Rattle.std.proofs.Common.{refl}
+use Rattle.ak_measure.specs.Blocks.{create_block}
+use Rattle.ak_measure.proofs.measurement.created.Goals as goal
+
+pub returns : goal.returns
+unfolding create_block
+returns c = rw (c.write_u64.ensures, c.write_u32.ensures, c.copy_from_slice.ensures.after) refl
