@@ -1,0 +1,5 @@
+use Rattle.ak_image.proofs.CodeFields.{code}
+use Rattle.ak_image.proofs.laws.numbers_of_code.Goals as goal
+
+pub returns : goal.returns
+returns c image sound = code image sound

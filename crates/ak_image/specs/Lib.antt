@@ -1,0 +1,12 @@
+pub mod Image
+pub mod Keys
+pub mod Spelled
+pub mod Numbers
+pub mod Pages
+pub mod Clusters
+pub mod Stages
+pub mod Reading
+pub mod Results
+pub mod Views
+pub mod Built
+pub mod Fields

@@ -1,0 +1,204 @@
+// Images of enclaves.
+ghost use Rattle.std.specs.Prelude.{◌≡◌, ◌<◌, ◌≤◌, ◌+◌, IfOk, OnOk, length, string_bytes};
+ghost use Rattle.ak_image.specs.Built.{page_bytes, secinfo_of, digest_of};
+ghost use Rattle.ak_image.specs.Image;
+ghost use Rattle.ak_core.specs.Layout.{IsValid};
+ghost use Rattle.ak_image.specs.Image.{IsSound, layout_of};
+
+use crate::built::{TCS, copy_page, fill_code, fill_tcs, fill_zeros, regular};
+use crate::clusters::Clusters;
+use crate::numbers::enclave_size;
+use crate::pages::PAGE_SIZE;
+use ak_core::{Build, Layout, OutOfMemory, Page, Perm};
+use ak_measure::Measure;
+use std::alloc::Global;
+use std::marker::Model;
+
+/// An enclave before it is built: all that its layout says, its signer's name, and the bytes of its program's pages.
+///
+/// Contracts see it as the record of its fields, and every image is sound: its layout is valid on each machine, and each page
+/// has 4096 bytes.
+#[derive(Drop)]
+pub struct Image {
+    base: u64,
+    entry: u32,
+    perms: Vec<Perm>,
+    cluster_of: Vec<u32>,
+    clusters: u32,
+    budget: u32,
+    signer: String,
+    bytes: Vec<u8>,
+}
+
+impl Model for Image {
+    ghost Value = { Image.Image };
+
+    ghost view = { λ i. record {
+      base = i.base;
+      entry = i.entry;
+      perms = i.perms.items;
+      cluster_of = i.cluster_of.items;
+      clusters = i.clusters;
+      budget = i.budget;
+      signer = string_bytes i.signer;
+      bytes = i.bytes.items;
+    } };
+
+    ghost invariant = { λ i. IsSound (record {
+      base = i.base;
+      entry = i.entry;
+      perms = i.perms.items;
+      cluster_of = i.cluster_of.items;
+      clusters = i.clusters;
+      budget = i.budget;
+      signer = string_bytes i.signer;
+      bytes = i.bytes.items;
+    }) };
+}
+
+impl Image {
+    /// The image with these parts.
+    pub(crate) fn new(
+        base: u64,
+        entry: u32,
+        perms: Vec<Perm>,
+        clusters: Clusters,
+        budget: u32,
+        signer: String,
+        bytes: Vec<u8>,
+    ) -> Image
+        requires { IsSound (record {
+          base = base;
+          entry = entry;
+          perms = perms.items;
+          cluster_of = clusters.of.items;
+          clusters = clusters.count;
+          budget = budget;
+          signer = string_bytes signer;
+          bytes = bytes.items;
+        }) }
+        ensures { result ≡ record {
+          base = base;
+          entry = entry;
+          perms = perms.items;
+          cluster_of = clusters.of.items;
+          clusters = clusters.count;
+          budget = budget;
+          signer = string_bytes signer;
+          bytes = bytes.items;
+        } }
+    {
+        Image {
+            base,
+            entry,
+            perms,
+            cluster_of: clusters.of,
+            clusters: clusters.count,
+            budget,
+            signer,
+            bytes,
+        }
+    }
+
+    /// How many pages the program has.
+    pub fn pages(&self) -> u32
+        ensures pages { result ≡ length self.now.perms }
+        ensures sound { IsSound self.now }
+    {
+        self.perms.len() as u32
+    }
+
+    /// The most program pages that may be in at once.
+    pub fn budget(&self) -> u32
+        ensures { result ≡ self.now.budget }
+    {
+        self.budget
+    }
+
+    /// The signer's name.
+    pub fn signer(&self) -> &str
+        ensures { result.now ≡ self.now.signer }
+    {
+        self.signer.as_str()
+    }
+
+    /// The layout of the image's enclave on a machine with so many frames and processors.
+    pub fn layout(&self, alloc: Global, frames: u32, lps: u8) -> Result<Layout, OutOfMemory>
+        requires some_frames { 9 ≤ frames }
+        requires few_frames { frames ≤ 8192 }
+        requires some_lp { 1 ≤ lps }
+        requires few_lps { lps ≤ 4 }
+        ensures layout { IfOk result (λ layout. layout ≡ layout_of self.now frames lps) }
+        ensures valid { OnOk result (IsValid (layout_of self.now frames lps)) }
+    {
+        let Ok(perms) = Vec::from_slice(alloc, &self.perms) else {
+            return Err(OutOfMemory);
+        };
+        let Ok(cluster_of) = Vec::from_slice(alloc, &self.cluster_of) else {
+            return Err(OutOfMemory);
+        };
+        Ok(Layout::new(
+            self.base,
+            self.entry,
+            perms,
+            cluster_of,
+            self.clusters,
+            self.budget,
+            frames,
+            lps,
+            Build::Resident,
+        ))
+    }
+
+    /// Writes the bytes that a page of the enclave has when it is built: a page of the program, or of the runtime.
+    #[tactic(auto, unfolding(crate::specs::Built::page_bytes))]
+    pub fn fill(&self, p: Page, into: &mut [u8])
+        requires page { p.0 < length self.now.perms + 6 }
+        requires whole { length into.old ≡ 4096 }
+        ensures { into.new ≡ page_bytes self.now p.0 }
+    {
+        let pages = self.perms.len() as u32;
+        let page = p.0;
+        if page < pages {
+            copy_page(&self.bytes, page as usize, into);
+        } else if page == pages {
+            fill_tcs(pages, into);
+        } else if page < pages + 5 {
+            fill_zeros(into);
+        } else {
+            fill_code(&self.cluster_of, &self.perms, self.budget, self.entry, into);
+        }
+    }
+
+    /// The flags of a page's SECINFO.
+    #[tactic(auto, unfolding(crate::specs::Built::secinfo_of))]
+    fn secinfo(&self, page: u32) -> u64
+        requires { page < length self.now.perms + 6 }
+        ensures { result ≡ secinfo_of self.now page }
+    {
+        let pages = self.perms.len() as u32;
+        if page < pages {
+            regular(self.perms[page as usize])
+        } else if page == pages {
+            TCS
+        } else if page < pages + 5 {
+            regular(Perm::Rw)
+        } else {
+            regular(Perm::Rx)
+        }
+    }
+
+    /// The measurement of the enclave that the image becomes.
+    pub fn digest(&self) -> [u8; 32]
+        ensures { result ≡ digest_of self.now }
+    {
+        let pages = self.pages();
+        let mut measure = Measure::new(enclave_size(u64::from(pages)));
+        let mut bytes = [0u8; PAGE_SIZE];
+        for page in 0..pages + 6 {
+            self.fill(Page(page), &mut bytes);
+            measure.add_page(4096 * u64::from(page), self.secinfo(page), &bytes);
+        }
+        measure.finish()
+    }
+}

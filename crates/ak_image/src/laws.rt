@@ -1,0 +1,33 @@
+// Laws over what bytes spell, and over the pages of an enclave.
+ghost use Rattle.std.specs.Prelude.{◌≡◌, ◌≢◌, ◌<◌, ◌≤◌, ◌+◌, ℕ, List, length};
+ghost use Rattle.ak_image.specs.Built.{page_bytes, tcs_page, code_page};
+ghost use Rattle.ak_image.specs.Fields.{IsTcs, IsCode};
+ghost use Rattle.ak_image.specs.Image;
+ghost use Rattle.ak_image.specs.Image.{IsSound};
+ghost use Rattle.ak_image.specs.Reading.{image_of};
+ghost use Rattle.ak_image.specs.declared.fault.ImageFault.TheVariants.{OutOfMemory};
+
+/// An image that bytes spell is sound.
+pub fn read_images_are_sound()
+    ensures { (bytes : List ℕ) (image : Image.Image) → image_of bytes ≡ Ok image → IsSound image }
+{}
+
+/// Want of memory is no refusal.
+pub fn memory_is_no_refusal()
+    ensures { (bytes : List ℕ) → image_of bytes ≢ Err OutOfMemory }
+{}
+
+/// Each page of an enclave has 4096 bytes when it is built.
+pub fn pages_are_whole()
+    ensures { (image : Image.Image) (p : ℕ) → IsSound image → p < length image.perms + 6 → length (page_bytes image p) ≡ 4096 }
+{}
+
+/// Each number of the TCS stands at its place.
+pub fn numbers_of_tcs()
+    ensures { (n : ℕ) → n ≤ 512 → IsTcs n (tcs_page n) }
+{}
+
+/// Each number of CODE stands at its place.
+pub fn numbers_of_code()
+    ensures { (image : Image.Image) → IsSound image → IsCode image (code_page image.cluster_of image.perms image.budget image.entry) }
+{}
