@@ -1,5 +1,5 @@
 -- The numbers of CODE, each at its place.
-use Rattle.std.proofs.Common.{◌≡◌, ℕ, zero, suc, ◌+◌, ◌-◌, ◌*◌, ◌^◌, ◌<◌, ◌≤◌, ◌==◌, nat_lt, if◌then◌else◌, Bool, true, false, List, [], ◌∷◌, ◌++◌, length, take, drop, get_or, Option, Some, None, refl, sym, ap, ◌∙◌, arith, append_assoc, length-append, length-take}
+use Rattle.std.proofs.Common.{◌≡◌, ℕ, zero, suc, ◌+◌, ◌-◌, ◌*◌, ◌<◌, ◌≤◌, ◌==◌, nat_lt, if◌then◌else◌, Bool, true, false, List, [], ◌∷◌, ◌++◌, length, take, drop, get_or, Some, None, refl, sym, ap, ◌∙◌, arith, append_assoc, length-append, length-take}
 use Rattle.std.specs.List.{flat_map, zip, slice_get}
 use Rattle.std.proofs.lemmas.Bool.Decides.{nat_tests}
 use Rattle.std.proofs.lemmas.List.{drop_more, take-append-drop, length-replicate}
@@ -13,7 +13,7 @@ use Rattle.ak_core.specs.declared.page.Perm.{Perm}
 use Rattle.ak_core.specs.declared.page.Perm.TheVariants.{R, Rw, Rx}
 use Rattle.ak_measure.specs.Blocks.{zeros}
 use Rattle.ak_image.specs.Built.{code_page, perm_number}
-use Rattle.ak_image.specs.Fields.{number_at, IsCode}
+use Rattle.ak_image.specs.Fields.{IsCode}
 use Rattle.ak_image.specs.Image.{Image, IsSound}
 use Rattle.ak_image.proofs.Fields.{reads}
 use Rattle.ak_image.proofs.Filling.{entry_of, table_length}
@@ -86,11 +86,11 @@ module _ (a g z : List ℕ) (es : List (ℕ × Perm)) (b e n : ℕ) (front_lengt
       let later = flat_map entry_of (drop (i + 1) es) in
       let inside : i < length es = omega arith in
       let table : flat_map entry_of es ≡ before ++ (entry_of x ++ later) =
-        ap (flat_map entry_of) (sym (take-append-drop i es) ∙ ap (λ (l : List (ℕ × Perm)). take i es ++ l) (drop_more es i d inside)) ∙ flat_map-append entry_of (take i es) (x ∷ drop (i + 1) es) in
+      ap (flat_map entry_of) (sym (take-append-drop i es) ∙ ap (λ (l : List (ℕ × Perm)). take i es ++ l) (drop_more es i d inside)) ∙ flat_map-append entry_of (take i es) (x ∷ drop (i + 1) es) in
       let taken : length (take i es) ≡ i = omega (arith, length-take i es) in
       let long : length (a ++ before) ≡ 1024 + 4 * i = simp length-append (omega (arith, table_length (take i es), taken)) in
       past (a ++ before) (from_page i d) page (1024 + 4 * i) k
-          (ap (λ (t : List ℕ). a ++ t ++ g ++ little_bytes 4 b ++ little_bytes 4 e ++ z) table ∙ parts a before (entry_of x) later g (little_bytes 4 b) (little_bytes 4 e) z) long
+      (ap (λ (t : List ℕ). a ++ t ++ g ++ little_bytes 4 b ++ little_bytes 4 e ++ z) table ∙ parts a before (entry_of x) later g (little_bytes 4 b) (little_bytes 4 e) z) long
 
 pub code : (image : Image) → IsSound image → IsCode image (code_page image.cluster_of image.perms image.budget image.entry)
 unfolding code_page
@@ -113,16 +113,16 @@ code image sound =
     let later = λ (i : ℕ). flat_map entry_of (drop (i + 1) es) ++ (g ++ (little_bytes 4 b ++ (little_bytes 4 e ++ z))) in
     record {
       cluster = λ i within. (
-        let same : pair i ≡ (get_or cs i 0, get_or ps i R) = get_or-zip cs ps i (0, R) (omega (arith, sound.clustered)) within in
-        let first : (pair i).0 ≡ get_or cs i 0 = ap (λ (p : ℕ × Perm). p.0) same in
-        let small : (pair i).0 < 65536 = omega (arith, first, each_below i (omega (arith, sound.clustered))) in
-        let at : 1024 + 4 * i ≡ 1024 + 4 * i + 0 = omega arith in
-        reads 2 (pair i).0 whole (little_bytes 1 (perm_number (pair i).1) ++ (zeros 1 ++ later i)) (1024 + 4 * i) small (ap (λ (m : ℕ). drop m whole) at ∙ pages i (0, R) 0 within) ∙ first);
+          let same : pair i ≡ (get_or cs i 0, get_or ps i R) = get_or-zip cs ps i (0, R) (omega (arith, sound.clustered)) within in
+          let first : (pair i).0 ≡ get_or cs i 0 = ap (λ (p : ℕ × Perm). p.0) same in
+          let small : (pair i).0 < 65536 = omega (arith, first, each_below i (omega (arith, sound.clustered))) in
+          let at : 1024 + 4 * i ≡ 1024 + 4 * i + 0 = omega arith in
+          reads 2 (pair i).0 whole (little_bytes 1 (perm_number (pair i).1) ++ (zeros 1 ++ later i)) (1024 + 4 * i) small (ap (λ (m : ℕ). drop m whole) at ∙ pages i (0, R) 0 within) ∙ first);
       permission = λ i perm is. (
-        let within : i < n = within_list ps i perm is in
-        let same : pair i ≡ (get_or cs i 0, get_or ps i R) = get_or-zip cs ps i (0, R) (omega (arith, sound.clustered)) within in
-        let second : (pair i).1 ≡ perm = ap (λ (p : ℕ × Perm). p.1) same ∙ get_or_from_slice_get ps i perm R is in
-        reads 1 (perm_number (pair i).1) whole (zeros 1 ++ later i) (1024 + 4 * i + 2) (small_number (pair i).1) (pages i (0, R) 2 within) ∙ ap perm_number second);
+          let within : i < n = within_list ps i perm is in
+          let same : pair i ≡ (get_or cs i 0, get_or ps i R) = get_or-zip cs ps i (0, R) (omega (arith, sound.clustered)) within in
+          let second : (pair i).1 ≡ perm = ap (λ (p : ℕ × Perm). p.1) same ∙ get_or_from_slice_get ps i perm R is in
+          reads 1 (perm_number (pair i).1) whole (zeros 1 ++ later i) (1024 + 4 * i + 2) (small_number (pair i).1) (pages i (0, R) 2 within) ∙ ap perm_number second);
       budget = reads 4 b whole (little_bytes 4 e ++ z) 3072 (omega arith) (limits 0);
       entry = reads 4 e whole z 3076 (omega arith) (limits 4);
     }

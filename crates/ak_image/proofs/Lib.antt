@@ -17,3 +17,4 @@ mod Rows
 mod Fields
 mod CodeFields
 pub mod BuiltPages
+mod Told

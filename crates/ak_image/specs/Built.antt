@@ -1,6 +1,6 @@
 -- The pages of an enclave as its build makes them: their bytes, and what their SECINFO says. (SDM volume 3D, "Thread Control
 -- Structure", "SECINFO"; STATE and CODE are this project's own.)
-use Rattle.std.specs.Prelude.{ℕ, ◌+◌, ◌-◌, ◌*◌, ◌==◌, nat_lt, List, ◌++◌, length, take, drop, map, zip, slice_get, if◌then◌else◌}
+use Rattle.std.specs.Prelude.{◌≡◌, ℕ, ◌+◌, ◌-◌, ◌*◌, ◌==◌, nat_lt, List, ◌++◌, length, take, drop, map, zip, slice_get, if◌then◌else◌}
 use Rattle.std.specs.List.{flat_map, range_with_len}
 use Rattle.std.specs.Option.{option_map_or}
 use Rattle.byteorder.specs.Endian.{little_bytes}
@@ -78,6 +78,19 @@ secinfo_of image p =
 abbrev pub built_pages : Image → List (ℕ × List ℕ)
 built_pages image = map (λ p. (secinfo_of image p, page_bytes image p)) (range_with_len 0 (pages_of image + 6))
 
--- SHA-256 of the blocks of the enclave
+-- the blocks that its build leaves
+abbrev pub image_blocks : Image → List ℕ
+image_blocks image = blocks_of (size_for (pages_of image)) (built_pages image)
+
+-- the measurement: SHA-256 of the blocks
 unfoldable pub digest_of : Image → List ℕ
-digest_of image = sha256 (blocks_of (size_for (pages_of image)) (built_pages image))
+digest_of image = sha256 (image_blocks image)
+
+-- two images that differ at most in their base and in their signer's name
+pub record IsSameEnclave (image other : Image) : Type 0 where
+  pub entry : image.entry ≡ other.entry
+  pub perms : image.perms ≡ other.perms
+  pub cluster_of : image.cluster_of ≡ other.cluster_of
+  pub clusters : image.clusters ≡ other.clusters
+  pub budget : image.budget ≡ other.budget
+  pub bytes : image.bytes ≡ other.bytes

@@ -1,6 +1,6 @@
 // Laws over what bytes spell, and over the pages of an enclave.
 ghost use Rattle.std.specs.Prelude.{◌≡◌, ◌≢◌, ◌<◌, ◌≤◌, ◌+◌, ℕ, List, length};
-ghost use Rattle.ak_image.specs.Built.{page_bytes, tcs_page, code_page};
+ghost use Rattle.ak_image.specs.Built.{page_bytes, tcs_page, code_page, image_blocks, IsSameEnclave};
 ghost use Rattle.ak_image.specs.Fields.{IsTcs, IsCode};
 ghost use Rattle.ak_image.specs.Image;
 ghost use Rattle.ak_image.specs.Image.{IsSound};
@@ -30,4 +30,10 @@ pub fn numbers_of_tcs()
 /// Each number of CODE stands at its place.
 pub fn numbers_of_code()
     ensures { (image : Image.Image) → IsSound image → IsCode image (code_page image.cluster_of image.perms image.budget image.entry) }
+{}
+
+/// The blocks tell the image, but for its base and its signer's name: what a measurement stands for, as far as no two texts
+/// have one digest.
+pub fn blocks_tell_the_image()
+    ensures { (image other : Image.Image) → IsSound image → IsSound other → image_blocks image ≡ image_blocks other → IsSameEnclave image other }
 {}

@@ -18,5 +18,6 @@ mod tests;
 pub use fault::ImageFault;
 pub use image::Image;
 pub use laws::{
-    memory_is_no_refusal, numbers_of_code, numbers_of_tcs, pages_are_whole, read_images_are_sound,
+    blocks_tell_the_image, memory_is_no_refusal, numbers_of_code, numbers_of_tcs, pages_are_whole,
+    read_images_are_sound,
 };
