@@ -1,166 +1,82 @@
 -- The machine at the end of the build.
-use Rattle.std.proofs.Common.{◌≡◌, ℕ, zero, suc, ◌+◌, ◌*◌, ◌<◌, ◌≤◌, false, List, [], ◌∷◌, ◌++◌, length, take, drop, refl, ap, ◌∙◌, sym, subst, arith, inl, inr}
-use Rattle.std.proofs.lemmas.Bool.{cases_lt}
-use Rattle.std.proofs.lemmas.Bool.Decides.{nat_tests}
-use Rattle.std.proofs.lemmas.Grind.{common_steps}
-use Rattle.std.proofs.lemmas.Option.{gets}
-use Rattle.std.proofs.Math.ListN.{get_or-eq_default}
-use Rattle.std.proofs.Math.Seq.{take-length}
-use Rattle.std.specs.Prelude.{Some, None, Vec, slice_get, nat_lt, ◌==◌}
-use Rattle.std.specs.declared.alloc.Global.{Global}
+use Rattle.std.proofs.Common.{◌≡◌, ℕ, ◌*◌, ◌<◌, List, length, take, drop, refl, ap, ◌∙◌, arith}
+use Rattle.std.specs.Prelude.{Some, None, is_some}
 use Rattle.ak_core.specs.Layout.{Layout}
 use Rattle.ak_core.specs.declared.page.Entry.{Entry}
 use Rattle.ak_core.specs.declared.registers.Regs.{Regs}
-use Rattle.ak_model.specs.Holdings.{Held, FreeFrame}
-use Rattle.ak_model.specs.Build.{held_at_build}
-use Rattle.ak_model.specs.PageTable.{pte}
-use Rattle.ak_epcm.specs.Entries.{entry_at, free_entry, has_page, HasNoFrame}
+use Rattle.ak_model.specs.Pages.{pages, all_pages}
+use Rattle.ak_model.specs.Build.{held_at_build, entry_at_build}
+use Rattle.ak_epcm.specs.Entries.{entry_at, HasDistinctPages}
 use Rattle.ak_pte.specs.declared.table.Pte.{Pte}
 use Rattle.ak_walk.specs.Agrees.{EntryAgrees}
 use Rattle.ak_machine.specs.declared.activity.Stage.{Stage}
 use Rattle.ak_machine.specs.declared.activity.Activity.{Activity}
-use Rattle.ak_machine.specs.FirstImage.{one_page}
-use Rattle.ak_machine.specs.Memory.{Frames, IsWhole, blank_page, length-blank_page, bytes_in, frame_bytes, tables_of, bytes_of}
-use Rattle.ak_machine.specs.Stands.{IsEntry}
-use Rattle.ak_machine.specs.Built.{built_entries, built_table, IsBuilt}
+use Rattle.ak_machine.specs.Served.{IsServedLayout}
+use Rattle.ak_machine.specs.Memory.{Frames, frame_with, bytes_found, tables_of, bytes_of}
+use Rattle.ak_machine.specs.State.{State}
+use Rattle.ak_machine.specs.Built.{MapsEach, FillsEach, page_held, bytes_held, IsBuilt, HoldsPages}
+use Rattle.ak_machine.proofs.Held.{distinct_held, held_there, frame_low, has_held, held_has}
+use Rattle.ak_machine.proofs.Frames.{frame_with-has}
 
--- ---- Frames
+-- the state of a machine before any move
+abbrev pub state_built : Regs → List Pte → List Entry → Frames → State
+state_built regs table entries frames =
+    record { activity = Activity.Outside Stage.New; regs = regs; count = 0; tables = tables_of table entries; bytes = bytes_of frames entries }
 
-past_frame : (frames : Frames) (f : ℕ) → length frames ≤ f → frame_bytes frames f ≡ blank_page
-past_frame frames f le = let none : slice_get frames f ≡ None = grind (arith, common_steps, gets) in ap bytes_in none
+-- the tables and the frames are those of the build
+pub record IsFilled (layout : Layout) (content : ℕ → List ℕ) (table : List Pte) (entries : List Entry) (frames : Frames) : Type 0 where
+  pub sized : length table ≡ all_pages layout
+  pub maps : MapsEach layout table (all_pages layout)
+  pub agrees : (f : ℕ) → EntryAgrees layout (entry_at entries f) (held_at_build layout f) None
+  pub fills : FillsEach layout content frames layout.frames
 
-old_frame : (frames : Frames) (page : Vec ℕ Global) (f : ℕ) → f < length frames → frame_bytes (frames ++ page ∷ []) f ≡ frame_bytes frames f
-old_frame frames page f lt = let same : slice_get (frames ++ page ∷ []) f ≡ slice_get frames f = grind (arith, common_steps, gets) in ap bytes_in same
+module _ (layout : Layout) (is : IsServedLayout layout) (content : ℕ → List ℕ) (table : List Pte) (entries : List Entry) (frames : Frames)
+    (filled : IsFilled layout content table entries frames) where
+  distinct : HasDistinctPages entries
+  distinct f g p h k =
+      distinct_held layout f g p is.resident
+      (has_held layout (entry_at entries f) (held_at_build layout f) None p (filled.agrees f) h)
+      (has_held layout (entry_at entries g) (held_at_build layout g) None p (filled.agrees g) k)
 
-pub new_frame : (frames : Frames) (page : Vec ℕ Global) (f : ℕ) → f ≡ length frames → frame_bytes (frames ++ page ∷ []) f ≡ page.items
-new_frame frames page f is = let there : slice_get (frames ++ page ∷ []) f ≡ Some page = grind (arith, common_steps, gets) in ap bytes_in there
+  -- a page is in the frame that the build puts it into
+  found : (p : ℕ) → p < all_pages layout → frame_with entries p ≡ Some (entry_at_build layout p).frame
+  found p lt =
+      let f = (entry_at_build layout p).frame in
+      frame_with-has entries f p distinct (held_has layout (entry_at entries f) (held_at_build layout f) None p (filled.agrees f) (held_there layout p is.resident lt))
 
-beyond_frame : (frames : Frames) (page : Vec ℕ Global) (f : ℕ) → length frames + 1 ≤ f → frame_bytes (frames ++ page ∷ []) f ≡ blank_page
-beyond_frame frames page f le = let none : slice_get (frames ++ page ∷ []) f ≡ None = grind (arith, common_steps, gets) in ap bytes_in none
+  page_is : (p : ℕ) → p < all_pages layout → bytes_of frames entries p ≡ content p
+  page_is p lt =
+      let low : (entry_at_build layout p).frame < layout.frames = let below = frame_low layout p is.resident lt in let room = is.room in omega arith in
+      ap (bytes_found frames) (found p lt)
+      ∙ filled.fills (entry_at_build layout p).frame low
+      ∙ ap (λ h. bytes_held content (page_held h)) (held_there layout p is.resident lt)
 
--- one more whole frame
-pub whole-push : (frames : Frames) (page : Vec ℕ Global) → length page.items ≡ 4096 → IsWhole frames → IsWhole (frames ++ page ∷ [])
-whole-push frames page size whole f =
-    elim (cases_lt f (length frames)) [
-      | inl lt ↦ ap length (old_frame frames page f lt) ∙ whole f
-      | inr ge ↦ elim (cases_lt (length frames) f) [
-        | inl gt ↦ ap length (beyond_frame frames page f (omega (arith, gt))) ∙ length-blank_page
-        | inr le ↦ ap length (new_frame frames page f (omega (arith, ge, le))) ∙ size
-      ]
-    ]
+  -- each page is in its frame, with its bytes
+  pub holds_pages : (regs : Regs) → HoldsPages layout content (state_built regs table entries frames)
+  holds_pages regs = record { held = λ p lt. ap is_some (found p lt); bytes = page_is }
 
--- no frame
-pub whole-none : IsWhole []
-whole-none f = length-blank_page
-
--- ---- The EPCM
-
--- no entry of nine has the page
-pub no_frame_of : (a b c d e f g h i : Entry) (p : ℕ) → has_page a p ≡ false → has_page b p ≡ false → has_page c p ≡ false → has_page d p ≡ false → has_page e p ≡ false →
-    has_page f p ≡ false → has_page g p ≡ false → has_page h p ≡ false → has_page i p ≡ false → HasNoFrame (a ∷ b ∷ c ∷ d ∷ e ∷ f ∷ g ∷ h ∷ i ∷ []) p
-no_frame_of a b c d e f g h i p ha hb hc hd he hf hg hh hi zero = ha
-no_frame_of a b c d e f g h i p ha hb hc hd he hf hg hh hi (suc zero) = hb
-no_frame_of a b c d e f g h i p ha hb hc hd he hf hg hh hi (suc (suc zero)) = hc
-no_frame_of a b c d e f g h i p ha hb hc hd he hf hg hh hi (suc (suc (suc zero))) = hd
-no_frame_of a b c d e f g h i p ha hb hc hd he hf hg hh hi (suc (suc (suc (suc zero)))) = he
-no_frame_of a b c d e f g h i p ha hb hc hd he hf hg hh hi (suc (suc (suc (suc (suc zero))))) = hf
-no_frame_of a b c d e f g h i p ha hb hc hd he hf hg hh hi (suc (suc (suc (suc (suc (suc zero)))))) = hg
-no_frame_of a b c d e f g h i p ha hb hc hd he hf hg hh hi (suc (suc (suc (suc (suc (suc (suc zero))))))) = hh
-no_frame_of a b c d e f g h i p ha hb hc hd he hf hg hh hi (suc (suc (suc (suc (suc (suc (suc (suc zero)))))))) = hi
-no_frame_of a b c d e f g h i p ha hb hc hd he hf hg hh hi (suc (suc (suc (suc (suc (suc (suc (suc (suc k))))))))) = refl
-
--- ---- Below a small number
-
-below_nine : (P : ℕ → Type 0) → P 0 → P 1 → P 2 → P 3 → P 4 → P 5 → P 6 → P 7 → P 8 → (f : ℕ) → f < 9 → P f
-below_nine P a b c d e f g h i zero lt = a
-below_nine P a b c d e f g h i (suc zero) lt = b
-below_nine P a b c d e f g h i (suc (suc zero)) lt = c
-below_nine P a b c d e f g h i (suc (suc (suc zero))) lt = d
-below_nine P a b c d e f g h i (suc (suc (suc (suc zero)))) lt = e
-below_nine P a b c d e f g h i (suc (suc (suc (suc (suc zero))))) lt = f
-below_nine P a b c d e f g h i (suc (suc (suc (suc (suc (suc zero)))))) lt = g
-below_nine P a b c d e f g h i (suc (suc (suc (suc (suc (suc (suc zero))))))) lt = h
-below_nine P a b c d e f g h i (suc (suc (suc (suc (suc (suc (suc (suc zero)))))))) lt = i
-below_nine P a b c d e f g h i (suc (suc (suc (suc (suc (suc (suc (suc (suc k))))))))) lt = absurd (omega arith)
-
-free_beyond : (f : ℕ) → 9 ≤ f → held_at_build one_page f ≡ FreeFrame
-free_beyond f ge =
-    let a : (f == 0) ≡ false = grind (arith, nat_tests) in
-    let b : (f == 1) ≡ false = grind (arith, nat_tests) in
-    let c : nat_lt f 8 ≡ false = grind (arith, nat_tests) in
-    let d : nat_lt f 9 ≡ false = grind (arith, nat_tests) in
-    rw (a, b, c, d) refl
-
-agree_beyond : (f : ℕ) → 9 ≤ f → EntryAgrees one_page (entry_at built_entries f) (held_at_build one_page f) None
-agree_beyond f ge =
-    let P : Held → Type 0 = λ h. EntryAgrees one_page (entry_at built_entries f) h None in
-    subst P (sym (free_beyond f ge)) (ap (λ (e : Entry). e.valid) (get_or-eq_default built_entries free_entry ge))
-
--- each entry of the EPCM agrees with the build
-entries_agree : (f : ℕ) → EntryAgrees one_page (entry_at built_entries f) (held_at_build one_page f) None
-entries_agree f =
-    elim (cases_lt f 9) [
-      | inl lt ↦ below_nine (λ k. EntryAgrees one_page (entry_at built_entries k) (held_at_build one_page k) None)
-          (record { valid = refl; kind = refl })
-          (record { valid = refl; kind = refl })
-          (record { valid = refl; kind = refl; page = refl; readable = λ ne. absurd (ne refl); writable = λ ne. absurd (ne refl); executable = λ ne. absurd (ne refl); blocked = refl })
-          (record { valid = refl; kind = refl; page = refl; readable = λ ne. refl; writable = λ ne. refl; executable = λ ne. refl; blocked = refl })
-          (record { valid = refl; kind = refl; page = refl; readable = λ ne. refl; writable = λ ne. refl; executable = λ ne. refl; blocked = refl })
-          (record { valid = refl; kind = refl; page = refl; readable = λ ne. refl; writable = λ ne. refl; executable = λ ne. refl; blocked = refl })
-          (record { valid = refl; kind = refl; page = refl; readable = λ ne. refl; writable = λ ne. refl; executable = λ ne. refl; blocked = refl })
-          (record { valid = refl; kind = refl; page = refl; readable = λ ne. refl; writable = λ ne. refl; executable = λ ne. refl; blocked = refl })
-          (record { valid = refl; kind = refl; page = refl; readable = λ ne. refl; writable = λ ne. refl; executable = λ ne. refl; blocked = refl })
-          f lt
-      | inr ge ↦ agree_beyond f ge
-    ]
-
--- each entry of the page table is that of the build
-table_agrees : (p : ℕ) → p < 7 → IsEntry (tables_of built_table built_entries) p (pte one_page [] p)
-table_agrees zero lt = record { frame = refl; flags = refl }
-table_agrees (suc zero) lt = record { frame = refl; flags = refl }
-table_agrees (suc (suc zero)) lt = record { frame = refl; flags = refl }
-table_agrees (suc (suc (suc zero))) lt = record { frame = refl; flags = refl }
-table_agrees (suc (suc (suc (suc zero)))) lt = record { frame = refl; flags = refl }
-table_agrees (suc (suc (suc (suc (suc zero))))) lt = record { frame = refl; flags = refl }
-table_agrees (suc (suc (suc (suc (suc (suc zero)))))) lt = record { frame = refl; flags = refl }
-table_agrees (suc (suc (suc (suc (suc (suc (suc k))))))) lt = absurd (omega arith)
-
--- ---- The machine
-
-whole_page : (page : List ℕ) → length page ≡ 4096 → take 4096 page ≡ page
-whole_page page whole = ap (λ n. take n page) (sym whole) ∙ take-length page
-
-page_shown : (frames : Frames) (page : List ℕ) (p : ℕ) → length page ≡ 4096 → frame_bytes frames 8 ≡ page → p < 1 →
-    bytes_of frames built_entries p ≡ take 4096 (drop (4096 * p) page)
-page_shown frames page zero whole there lt = there ∙ sym (whole_page page whole)
-page_shown frames page (suc k) whole there lt = absurd (omega arith)
-
-built_at : (regs : Regs) (frames : Frames) (page : List ℕ) → length page ≡ 4096 → frame_bytes frames 8 ≡ page →
-    IsBuilt one_page page (record { activity = Activity.Outside Stage.New; regs = regs; count = 0; tables = tables_of built_table built_entries; bytes = bytes_of frames built_entries })
-built_at regs frames page whole there = record {
-  stands = record {
-    tape = record { ordered = refl; completed = λ i lt. absurd (omega arith); traps = tt; unmissed = refl };
-    outputs = refl;
-    tables = record { entries = entries_agree; sized = refl; mapped = table_agrees; within = refl };
-    control = record { count_is = refl; none_returned = refl; no_events = refl };
-    bytes = record {
-      flat = record { regs = regs; bytes = page };
-      registers = refl;
-      shows = λ p lt held. page_shown frames page p whole there lt;
-      placed = refl;
+  -- the machine stands for the image whose pages these are
+  pub built : (regs : Regs) (image : List ℕ) → ((p : ℕ) → p < pages layout → content p ≡ take 4096 (drop (4096 * p) image)) → IsBuilt layout image (state_built regs table entries frames)
+  built regs image pages_are = record {
+    stands = record {
+      tape = record { ordered = refl; completed = λ i lt. absurd (omega arith); traps = tt; unmissed = refl };
+      outputs = refl;
+      tables = record {
+        entries = filled.agrees;
+        sized = filled.sized;
+        mapped = λ p lt. let m = filled.maps p lt in record { frame = m.frame; flags = m.flags };
+        within = refl;
+        alone = λ q other. refl;
+      };
+      control = record { count_is = refl; none_returned = refl; no_events = refl };
+      bytes = record {
+        flat = record { regs = regs; bytes = image };
+        registers = refl;
+        shows = λ p lt held. page_is p (omega arith) ∙ pages_are p lt;
+        placed = refl;
+      };
+      reached = tt;
     };
-    reached = tt;
-  };
-  starts = λ later. refl;
-  count = refl;
-}
-
--- a machine with this layout, these tables and these frames
-pub built : (layout : Layout) (regs : Regs) (table : List Pte) (entries : List Entry) (frames : Frames) (page : List ℕ) → layout ≡ one_page → table ≡ built_table → entries ≡ built_entries →
-    length page ≡ 4096 → frame_bytes frames 8 ≡ page →
-    IsBuilt layout page (record { activity = Activity.Outside Stage.New; regs = regs; count = 0; tables = tables_of table entries; bytes = bytes_of frames entries })
-built layout regs table entries frames page is is_table is_entries whole there =
-    let L : Layout → Type 0 = λ l. IsBuilt l page (record { activity = Activity.Outside Stage.New; regs = regs; count = 0; tables = tables_of table entries; bytes = bytes_of frames entries }) in
-    let T : List Pte → Type 0 = λ t. IsBuilt one_page page (record { activity = Activity.Outside Stage.New; regs = regs; count = 0; tables = tables_of t entries; bytes = bytes_of frames entries }) in
-    let E : List Entry → Type 0 = λ e. IsBuilt one_page page (record { activity = Activity.Outside Stage.New; regs = regs; count = 0; tables = tables_of built_table e; bytes = bytes_of frames e }) in
-    subst L (sym is) (subst T (sym is_table) (subst E (sym is_entries) (built_at regs frames page whole there)))
+    starts = λ later. refl;
+    count = refl;
+  }

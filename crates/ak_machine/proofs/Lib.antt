@@ -2,10 +2,13 @@ pub mod Frames
 pub mod FlatRuns
 pub mod Going
 pub mod Walked
+pub mod Alone
 pub mod Refused
 pub mod ProgramTurns
 pub mod RuntimeTurns
 pub mod SoundTurns
 pub mod Runs
 pub mod Moves
+pub mod Held
+pub mod Filling
 pub mod Builds

@@ -21,17 +21,18 @@ use Rattle.ak_model.proofs.Walks.{completes-walked, traps-walked, faults-walked}
 use Rattle.ak_exec.specs.Turns.{Shows, Completes, Raises, Refuses}
 use Rattle.ak_machine.specs.declared.activity.Stage.{Stage}
 use Rattle.ak_machine.specs.declared.activity.Activity.{Activity}
-use Rattle.ak_machine.specs.FirstImage.{IsOnePageLayout}
+use Rattle.ak_machine.specs.Served.{IsServedLayout}
 use Rattle.ak_machine.specs.Memory.{is_held, finds}
 use Rattle.ak_machine.specs.Faults.{fault_stage, fault_event}
 use Rattle.ak_machine.specs.State.{State}
 use Rattle.ak_machine.specs.Controls.{GoesOn, IsGoing, control_of}
 use Rattle.ak_machine.specs.Stands.{Stands}
 use Rattle.ak_machine.specs.Moves.{DoesTurn}
+use Rattle.ak_machine.proofs.Alone.{still_alone}
 use Rattle.ak_machine.proofs.Going.{later_less, not_due, due_now, going_more, going_call, tape_more, unmissed_more, call_at_going, call_at_new, call_at_below, call_at_trap, call_at_break, forced_call, forced_trap, forced_break}
 use Rattle.ak_machine.proofs.FlatRuns.{run_next, step_is, outputs_done, outputs_called}
 use Rattle.ak_machine.proofs.Walked.{finds-walkable, granted_walkable, step_is_end}
-use Rattle.ak_machine.proofs.Refused.{refused_in, step_denied}
+use Rattle.ak_machine.proofs.Refused.{each_in, step_denied}
 
 -- a state at this activity
 abbrev pub at : State → Activity → State
@@ -95,7 +96,7 @@ module _ (layout : Layout) (image : List ℕ) (past : History) (s : State) (retu
             unmissed = st.tape.unmissed;
           };
           outputs = outputs_done layout image returned shown s.count _ line_is.after st.bytes.placed ends st.outputs;
-          tables = record { entries = st.tables.entries; sized = st.tables.sized; mapped = st.tables.mapped; within = st.tables.within };
+          tables = record { entries = st.tables.entries; sized = st.tables.sized; mapped = st.tables.mapped; within = st.tables.within; alone = st.tables.alone };
           control = going_more s.count events st.control;
           bytes = record {
             flat = line_is.after;
@@ -142,7 +143,7 @@ module _ (layout : Layout) (image : List ℕ) (past : History) (s : State) (retu
             unmissed = unmissed_more events (Event.Call s.count b a) refl st.tape.unmissed;
           };
           outputs = outputs_called layout image returned shown s.count _ b a line_is.after st.bytes.placed ends st.outputs;
-          tables = record { entries = st.tables.entries; sized = st.tables.sized; mapped = st.tables.mapped; within = st.tables.within };
+          tables = record { entries = st.tables.entries; sized = st.tables.sized; mapped = st.tables.mapped; within = st.tables.within; alone = st.tables.alone };
           control = goes_on b a s.count events st.control;
           bytes = record {
             flat = line_is.after;
@@ -184,7 +185,7 @@ module _ (layout : Layout) (image : List ℕ) (past : History) (s : State) (retu
             unmissed = unmissed_more events (Event.Trap s.count v) refl st.tape.unmissed;
           };
           outputs = st.outputs;
-          tables = record { entries = st.tables.entries; sized = st.tables.sized; mapped = st.tables.mapped; within = refl };
+          tables = record { entries = st.tables.entries; sized = st.tables.sized; mapped = st.tables.mapped; within = refl; alone = still_alone past None st.tables.alone };
           control = tt;
           bytes = record {
             flat = st.bytes.flat;
@@ -212,7 +213,7 @@ module _ (layout : Layout) (image : List ℕ) (past : History) (s : State) (retu
 
   -- ---- A fault
 
-  broken_at : (access : Fault) (granted : List Touch) → IsOnePageLayout layout → is_forbidden layout access ≡ false → (st : Stands layout image past (at s Activity.Running) returned shown events) →
+  broken_at : (access : Fault) (granted : List Touch) → IsServedLayout layout → is_forbidden layout access ≡ false → (st : Stands layout image past (at s Activity.Running) returned shown events) →
       Refuses (line layout st.bytes.flat) access granted → list_all (finds s.tables) granted ≡ true → finds s.tables access ≡ false →
       DoesTurn layout image past (at s Activity.Running) (at s (Activity.Outside (Stage.Broken access))) (Some (Exit.Pf layout.base 4)) (Some (Event.Break s.count)) returned shown events
   broken_at access granted is permitted st line_is found lost =
@@ -232,7 +233,7 @@ module _ (layout : Layout) (image : List ℕ) (past : History) (s : State) (retu
             unmissed = unmissed_more events (Event.Break s.count) refl st.tape.unmissed;
           };
           outputs = st.outputs;
-          tables = record { entries = st.tables.entries; sized = st.tables.sized; mapped = st.tables.mapped; within = refl };
+          tables = record { entries = st.tables.entries; sized = st.tables.sized; mapped = st.tables.mapped; within = refl; alone = still_alone past None st.tables.alone };
           control = tt;
           bytes = record {
             flat = st.bytes.flat;
@@ -249,7 +250,7 @@ module _ (layout : Layout) (image : List ℕ) (past : History) (s : State) (retu
           record {
             comes = (_, st.bytes.placed);
             reached = tt;
-            faults = record { access = access; faults = faults; inside = refused_in layout st.bytes.flat granted access is line_is };
+            faults = record { access = access; faults = faults; inside = each_in layout access.page.0 is };
             unmissed = refl;
           },
           tt,
@@ -275,7 +276,7 @@ module _ (layout : Layout) (image : List ℕ) (past : History) (s : State) (retu
             unmissed = unmissed_more events (Event.Trap s.count 14) refl st.tape.unmissed;
           };
           outputs = st.outputs;
-          tables = record { entries = st.tables.entries; sized = st.tables.sized; mapped = st.tables.mapped; within = refl };
+          tables = record { entries = st.tables.entries; sized = st.tables.sized; mapped = st.tables.mapped; within = refl; alone = still_alone past None st.tables.alone };
           control = tt;
           bytes = record {
             flat = st.bytes.flat;
@@ -303,7 +304,7 @@ module _ (layout : Layout) (image : List ℕ) (past : History) (s : State) (retu
       }
 
   -- an access that faults, by whether it is forbidden
-  faulted_at : (b : Bool) (access : Fault) (granted : List Touch) → IsOnePageLayout layout → is_forbidden layout access ≡ b →
+  faulted_at : (b : Bool) (access : Fault) (granted : List Touch) → IsServedLayout layout → is_forbidden layout access ≡ b →
       (st : Stands layout image past (at s Activity.Running) returned shown events) →
       Refuses (line layout st.bytes.flat) access granted → list_all (finds s.tables) granted ≡ true → finds s.tables access ≡ false →
       DoesTurn layout image past (at s Activity.Running) (at s (Activity.Outside (if b then Stage.Denied else Stage.Broken access))) (Some (Exit.Pf layout.base 4))
@@ -369,7 +370,7 @@ module _ (layout : Layout) (image : List ℕ) (past : History) (s : State) (retu
       (subst Q (sym running) (λ st. raised_at v granted st (does st.bytes.flat st.bytes.registers st.bytes.shows) here other))
 
   -- an access of an instruction was refused
-  pub faulted : (access : Fault) (regs : Regs) (tables : Tables) (bytes : ℕ → List ℕ) (granted : List Touch) → IsOnePageLayout layout → s.activity ≡ Activity.Running →
+  pub faulted : (access : Fault) (regs : Regs) (tables : Tables) (bytes : ℕ → List ℕ) (granted : List Touch) → IsServedLayout layout → s.activity ≡ Activity.Running →
       regs ≡ s.regs → tables ≡ s.tables → bytes ≡ s.bytes →
       Does (λ flat. Refuses (line layout flat) access granted) → list_all (finds tables) granted ≡ true → finds tables access ≡ false → Stands layout image past s returned shown events →
       DoesTurn layout image past s (record { activity = Activity.Outside (fault_stage layout access); regs = regs; count = s.count; tables = tables; bytes = bytes })

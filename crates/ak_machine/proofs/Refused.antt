@@ -1,40 +1,34 @@
--- An access that is refused: it is of a program page, its cluster is in, and where it is forbidden the instruction gives vector 14.
-use Rattle.std.proofs.Common.{◌≡◌, ℕ, ◌<◌, List, [], ◌∷◌, ◌++◌, length, refl, ap, ◌∙◌, subst, arith, Bool, true, false}
-use Rattle.std.specs.Prelude.{◌==◌, ◌||◌, if◌then◌else◌, IsTrue, slice_index}
+-- An access that is refused: its cluster is in, and where it is forbidden the instruction gives vector 14.
+use Rattle.std.proofs.Common.{◌≡◌, ℕ, zero, suc, ◌+◌, ◌<◌, ◌≤◌, List, [], ◌∷◌, ◌++◌, refl, ap, ◌∙◌, arith, Bool, true, false}
+use Rattle.std.specs.Prelude.{◌==◌, ◌||◌, if◌then◌else◌, IsTrue}
+use Rattle.std.proofs.lemmas.Bool.{eqb-false}
 use Rattle.std.specs.List.{list_any, range_with_len}
 use Rattle.std.proofs.lemmas.Bool.Decides.{nat_tests}
 use Rattle.ak_core.specs.Layout.{Layout}
 use Rattle.ak_core.specs.Mem.{Touch}
-use Rattle.ak_model.specs.Pages.{pages, cluster_at}
+use Rattle.ak_model.specs.Pages.{cluster_at}
 use Rattle.ak_model.specs.Queue.{is_in}
 use Rattle.ak_model.specs.Build.{queue_at_build}
 use Rattle.ak_model.specs.Flat.{Flat, End, line, step, is_forbidden}
-use Rattle.ak_model.proofs.ProgramPages.{AllLow, line_low}
-use Rattle.ak_exec.specs.Turns.{Refuses, is_vector}
-use Rattle.ak_machine.specs.FirstImage.{IsOnePageLayout}
+use Rattle.ak_model.proofs.EventsTaken.{cluster_below}
+use Rattle.ak_exec.specs.Turns.{is_vector}
+use Rattle.ak_machine.specs.Served.{IsServedLayout}
 
--- ---- Its page
+-- ---- Its cluster
 
-low_next : (layout : Layout) (granted rest : List Touch) (t : Touch) → AllLow layout (granted ++ t ∷ rest) → t.page.0 < pages layout
-low_next layout [] rest t low = low.0
-low_next layout (u ∷ granted) rest t low = low_next layout granted rest t low.1
+in_here : (c a : ℕ) (b rest : Bool) → (a == c) ≡ b → ((a ≡ c → ⊥) → rest ≡ true) → (b || rest) ≡ true
+in_here c a true rest e more = refl
+in_here c a false rest e more = more (eqb-false a c e)
 
-refused_low : (layout : Layout) (flat : Flat) (granted : List Touch) (t : Touch) → Refuses (line layout flat) t granted → t.page.0 < pages layout
-refused_low layout flat granted t refuses = low_next layout granted refuses.rest t (subst (AllLow layout) refuses.next (line_low layout flat))
+in_range : (n a c : ℕ) → a ≤ c → c < a + n → is_in (range_with_len a n) c ≡ true
+in_range zero a c low high = absurd (omega arith)
+in_range (suc n) a c low high = in_here c a (a == c) (is_in (range_with_len (a + 1) n) c) refl (λ other. in_range n (a + 1) c (omega arith) (omega arith))
 
-queue_is : (layout : Layout) → IsOnePageLayout layout → queue_at_build layout.build layout ≡ 0 ∷ []
-queue_is layout is = ap (λ build. queue_at_build build layout) is.resident ∙ ap (λ n. range_with_len 0 n) is.clusters
-
--- its cluster is in
-pub refused_in : (layout : Layout) (flat : Flat) (granted : List Touch) (t : Touch) → IsOnePageLayout layout → Refuses (line layout flat) t granted →
-    is_in (queue_at_build layout.build layout) (cluster_at layout t.page.0) ≡ true
-refused_in layout flat granted t is refuses =
-    let low = refused_low layout flat granted t refuses in
-    let one : length layout.perms ≡ 1 = ap length is.one_page in
-    let first : t.page.0 ≡ 0 = omega arith in
-    let cluster : cluster_at layout t.page.0 ≡ 0 =
-    ap (cluster_at layout) first ∙ ap (λ clusters. slice_index clusters 0) is.one_cluster in
-    ap (λ queue. is_in queue (cluster_at layout t.page.0)) (queue_is layout is) ∙ ap (is_in (0 ∷ [])) cluster
+-- each page's cluster is in
+pub each_in : (layout : Layout) (p : ℕ) → IsServedLayout layout → is_in (queue_at_build layout.build layout) (cluster_at layout p) ≡ true
+each_in layout p is =
+    ap (λ build. is_in (queue_at_build build layout) (cluster_at layout p)) is.resident
+    ∙ in_range layout.clusters 0 (cluster_at layout p) (omega arith) (let below = cluster_below layout is.valid p in omega arith)
 
 -- ---- Where it is forbidden
 

@@ -162,7 +162,7 @@ module _ (layout : Layout) (image : List ℕ) (past : History) where
         stands = record {
           tape = s.stands.tape;
           outputs = s.stands.outputs;
-          tables = record { entries = s.stands.tables.entries; sized = s.stands.tables.sized; mapped = s.stands.tables.mapped; within = s.stands.tables.within };
+          tables = record { entries = s.stands.tables.entries; sized = s.stands.tables.sized; mapped = s.stands.tables.mapped; within = s.stands.tables.within; alone = s.stands.tables.alone };
           control = s.stands.control;
           bytes = s.stands.bytes;
           reached = reached_more new.activity layout image _ past new.count s.values s.stands.reached;

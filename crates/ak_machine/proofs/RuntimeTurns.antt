@@ -22,6 +22,7 @@ use Rattle.ak_machine.specs.Controls.{IsGoing, IsFresh, control_of}
 use Rattle.ak_machine.specs.Places.{IsAfterCall}
 use Rattle.ak_machine.specs.Stands.{Stands, TablesStand}
 use Rattle.ak_machine.specs.Moves.{DoesTurn, after_run, is_still}
+use Rattle.ak_machine.proofs.Alone.{still_alone}
 use Rattle.ak_machine.proofs.Going.{going_forced}
 use Rattle.ak_machine.proofs.FlatRuns.{step_longer, outputs_longer}
 use Rattle.ak_machine.proofs.ProgramTurns.{at}
@@ -36,7 +37,7 @@ runtime_is layout past control context resident =
 pub tables_left : (layout : Layout) (past : History) (activity : Activity) (tables : Tables) (turns : ℕ) (exit : Exit) (stage : Stage) → is_still exit ≡ false →
     TablesStand layout past activity tables → TablesStand layout (after_run past turns exit) (Activity.Outside stage) tables
 tables_left layout past activity tables turns Exit.Still stage left st = cc
-tables_left layout past activity tables turns _ stage left st = record { entries = st.entries; sized = st.sized; mapped = st.mapped; within = refl }
+tables_left layout past activity tables turns _ stage left st = record { entries = st.entries; sized = st.sized; mapped = st.mapped; within = refl; alone = still_alone past None st.alone }
 
 -- ---- How the runtime leaves
 
@@ -105,7 +106,7 @@ module _ (layout : Layout) (image : List ℕ) (past : History) (s : State) (retu
         stands = λ turns. record {
           tape = st.tape;
           outputs = st.outputs;
-          tables = record { entries = st.tables.entries; sized = st.tables.sized; mapped = st.tables.mapped; within = st.tables.within };
+          tables = record { entries = st.tables.entries; sized = st.tables.sized; mapped = st.tables.mapped; within = st.tables.within; alone = st.tables.alone };
           control = subst P (sym st.control.no_events) tt;
           bytes = record {
             flat = record { regs = zeroed (layout.base + layout.entry); bytes = st.bytes.flat.bytes };
@@ -149,7 +150,7 @@ module _ (layout : Layout) (image : List ℕ) (past : History) (s : State) (retu
               ∙ outputs_longer layout image returned (v ∷ []) call.before _ call.reached
               ∙ ap (outputs layout image returned) (sym call.count_is)
               ∙ st.outputs;
-          tables = record { entries = st.tables.entries; sized = st.tables.sized; mapped = st.tables.mapped; within = st.tables.within };
+          tables = record { entries = st.tables.entries; sized = st.tables.sized; mapped = st.tables.mapped; within = st.tables.within; alone = st.tables.alone };
           control = st.control;
           bytes = record {
             flat = record { regs = with_reg flat.regs rax v; bytes = flat.bytes };

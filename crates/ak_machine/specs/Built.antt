@@ -1,63 +1,54 @@
--- The tables at the end of the build of an image of one page of code.
-use Rattle.std.specs.Prelude.{◌≡◌, ℕ, true, false, List, [], ◌∷◌}
+-- What stands at the end of the build: the tables, what the frames hold, and the machine.
+use Rattle.std.specs.Prelude.{◌≡◌, ℕ, ◌<◌, true, List, [], Option, Some, None}
 use Rattle.ak_core.specs.Layout.{Layout}
-use Rattle.ak_core.specs.declared.page.Entry.{Entry}
-use Rattle.ak_core.specs.declared.page.PageType.{PageType}
-use Rattle.ak_core.specs.declared.page.PageType.TheVariants.{Secs, Tcs, Reg, Va}
-use Rattle.ak_core.specs.declared.page.Perm.TheVariants.{R, Rw, Rx}
 use Rattle.ak_core.specs.declared.event.Event.{Event}
-use Rattle.ak_model.specs.Pages.{flags_for}
+use Rattle.ak_model.specs.Pages.{all_pages}
+use Rattle.ak_model.specs.Holdings.{Held, PageFrame, Mapping}
+use Rattle.ak_model.specs.Build.{held_at_build, entry_at_build}
 use Rattle.ak_model.specs.Control.{start}
 use Rattle.ak_pte.specs.declared.table.Pte.{Pte}
+use Rattle.ak_machine.specs.Memory.{Frames, blank_page, frame_bytes, is_held, pte_at}
 use Rattle.ak_machine.specs.State.{State}
 use Rattle.ak_machine.specs.Controls.{control_of}
 use Rattle.ak_machine.specs.Stands.{Stands}
 
--- ---- The EPCM
-
--- the entry of a frame that holds no page of the program or of the runtime
-abbrev pub other_entry : PageType → Entry
-other_entry kind = record { valid = true; kind = kind; page = record { 0 = 0 }; r = false; w = false; x = false; blocked = false }
-
--- the entry of the TCS
-abbrev pub tcs_entry : Entry
-tcs_entry = record { valid = true; kind = Tcs; page = record { 0 = 1 }; r = false; w = false; x = false; blocked = false }
-
--- the entry of a page of data
-abbrev pub data_entry : ℕ → Entry
-data_entry p = record { valid = true; kind = Reg; page = record { 0 = p }; r = true; w = true; x = false; blocked = false }
-
--- the entry of a page of code
-abbrev pub code_entry : ℕ → Entry
-code_entry p = record { valid = true; kind = Reg; page = record { 0 = p }; r = true; w = false; x = true; blocked = false }
-
--- the SECS, a VA page, the TCS, two saved-state areas, and these
-abbrev pub entries_with : Entry → Entry → Entry → Entry → List Entry
-entries_with a b c d =
-    other_entry Secs ∷ other_entry Va ∷ tcs_entry ∷ data_entry 2 ∷ data_entry 3 ∷ a ∷ b ∷ c ∷ d ∷ []
-
--- the SECS, a VA page, the TCS, three saved-state areas, STATE, CODE, and the program's page
-abbrev pub built_entries : List Entry
-built_entries = entries_with (data_entry 4) (data_entry 5) (code_entry 6) (code_entry 0)
-
 -- ---- The page table
 
--- each page's frame: the program's page, the TCS, three saved-state areas, STATE and CODE
-abbrev pub built_table : List Pte
-built_table =
-    record { frame = record { 0 = 8 }; flags = flags_for Rx }
-    ∷ record { frame = record { 0 = 2 }; flags = flags_for R }
-    ∷ record { frame = record { 0 = 3 }; flags = flags_for Rw }
-    ∷ record { frame = record { 0 = 4 }; flags = flags_for Rw }
-    ∷ record { frame = record { 0 = 5 }; flags = flags_for Rw }
-    ∷ record { frame = record { 0 = 6 }; flags = flags_for Rw }
-    ∷ record { frame = record { 0 = 7 }; flags = flags_for Rx }
-    ∷ []
+-- the entry of the page table is this one
+pub record IsMapping (e : Pte) (mapping : Mapping) : Type 0 where
+  pub frame : e.frame.0 ≡ mapping.frame
+  pub flags : e.flags ≡ mapping.flags
+
+-- the first n pages are mapped as the build leaves them
+abbrev pub MapsEach : Layout → List Pte → ℕ → Type 0
+MapsEach layout table n = (p : ℕ) → p < n → IsMapping (pte_at table p) (entry_at_build layout p)
+
+-- ---- Frames
+
+-- the page of the enclave that a frame holds, if it holds one
+abbrev pub page_held : Held → Option ℕ
+page_held (PageFrame p) = Some p
+page_held _ = None
+
+-- the bytes of a frame that holds this page; a frame that holds none is zero
+abbrev pub bytes_held : (ℕ → List ℕ) → Option ℕ → List ℕ
+bytes_held content None = blank_page
+bytes_held content (Some p) = content p
+
+-- the first n frames have the bytes that the build leaves in them, where each page has this content
+abbrev pub FillsEach : Layout → (ℕ → List ℕ) → Frames → ℕ → Type 0
+FillsEach layout content frames n =
+    (f : ℕ) → f < n → frame_bytes frames f ≡ bytes_held content (page_held (held_at_build layout f))
 
 -- ---- The machine
 
--- the state stands for a page with these bytes before any move, and its control state is that of the build
-pub record IsBuilt (layout : Layout) (page : List ℕ) (state : State) : Type 0 where
-  pub stands : Stands layout page [] state [] [] []
+-- the state stands for the image before any move, and its control state is that of the build
+pub record IsBuilt (layout : Layout) (image : List ℕ) (state : State) : Type 0 where
+  pub stands : Stands layout image [] state [] [] []
   pub starts : (later : List Event) → start layout later ≡ control_of layout state [] later
   pub count : state.count ≡ 0
+
+-- each page of the enclave is in a frame, and has this content
+pub record HoldsPages (layout : Layout) (content : ℕ → List ℕ) (state : State) : Type 0 where
+  pub held : (p : ℕ) → p < all_pages layout → is_held state.tables.entries p ≡ true
+  pub bytes : (p : ℕ) → p < all_pages layout → state.bytes p ≡ content p

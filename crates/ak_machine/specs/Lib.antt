@@ -1,7 +1,6 @@
 pub mod Faults
 pub mod Memory
 pub mod Served
-pub mod FirstImage
 pub mod State
 pub mod Controls
 pub mod Places

@@ -1,5 +1,5 @@
 -- Pages in frames, found by the tables.
-use Rattle.std.specs.Prelude.{◌≡◌, ℕ, Bool, ◌&&◌, List, length, replicate, Option, Some, None, is_some, Vec, position, slice_get, slice_index_or, nat_lt}
+use Rattle.std.specs.Prelude.{◌≡◌, ℕ, Bool, ◌&&◌, List, length, replicate, Option, Some, None, is_some, Vec, position, slice_get, slice_index_or, nat_lt, refl}
 use Rattle.std.proofs.lemmas.List.{length-replicate}
 use Rattle.std.specs.declared.alloc.Global.{Global}
 use Rattle.ak_core.specs.Mem.{Touch, Tables}
@@ -18,6 +18,10 @@ blank_page = replicate 4096 0
 pub length-blank_page : length blank_page ≡ 4096
 unfolding blank_page
 length-blank_page = length-replicate {A = ℕ} 4096 0
+
+pub blank_page-is : replicate 4096 0 ≡ blank_page
+unfolding blank_page
+blank_page-is = refl
 
 -- the pages in the frames, that of frame 0 first
 abbrev pub Frames : Type 0

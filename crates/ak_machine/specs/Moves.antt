@@ -1,5 +1,5 @@
 -- What turns, runs and moves do: they are those of the definitions, whatever comes later, and they keep the relation.
-use Rattle.std.specs.Prelude.{◌≡◌, ℕ, ◌+◌, ◌-◌, Bool, true, false, List, ◌∷◌, ◌++◌, Option, Some, None}
+use Rattle.std.specs.Prelude.{◌≡◌, ℕ, ◌+◌, ◌-◌, Bool, true, false, List, ◌∷◌, ◌++◌, Option, Some, None, ◌==◌, if◌then◌else◌}
 use Rattle.ak_core.specs.Layout.{Layout}
 use Rattle.ak_core.specs.Journal.{with_more}
 use Rattle.ak_core.specs.declared.event.Event.{Event}
@@ -46,9 +46,9 @@ abbrev pub runtime_note : Activity → RuntimeNote
 runtime_note (Activity.Entering stage v) = stage_note stage
 runtime_note _ = RuntimeNote.Quiet
 
--- what the runtime notes in a move
+-- what the runtime notes in a move: in a run of processor 0
 abbrev pub note_of_move : Move → Activity → RuntimeNote
-note_of_move (Run lp n) activity = runtime_note activity
+note_of_move (Run lp n) activity = if lp.0 == 0 then runtime_note activity else RuntimeNote.Quiet
 note_of_move _ activity = RuntimeNote.Quiet
 
 -- ---- One turn

@@ -1,5 +1,5 @@
 -- What a machine stands for, after a history of moves: a place of the trace, and of the program's flat run.
-use Rattle.std.specs.Prelude.{◌≡◌, ℕ, ◌<◌, Bool, true, false, List, ◌++◌, Option, Some, None, option_and_then, ◌==◌, if◌then◌else◌}
+use Rattle.std.specs.Prelude.{◌≡◌, ℕ, ◌<◌, ◌≤◌, Bool, true, false, List, ◌++◌, Option, Some, None, option_and_then, ◌==◌, if◌then◌else◌}
 use Rattle.std.specs.List.{list_all}
 use Rattle.ak_core.specs.Layout.{Layout}
 use Rattle.ak_core.specs.Journal.{with_more}
@@ -66,12 +66,13 @@ pub record IsEntry (tables : Tables) (p : ℕ) (entry : Mapping) : Type 0 where
   pub flags : tables.flags p ≡ entry.flags
 
 -- the part of the relation on tables: each entry of the EPCM says what the history says of its frame; the page table has an
--- entry for each page, as last set; and the processor is inside where the history says so
+-- entry for each page, as last set; and processor 0 is inside where the history says so, and no other one is
 pub record TablesStand (layout : Layout) (past : History) (activity : Activity) (tables : Tables) : Type 0 where
   pub entries : (f : ℕ) → EntryAgrees layout (entry_at tables.entries f) (held layout past f) (blocked_at past f)
   pub sized : tables.pages ≡ all_pages layout
   pub mapped : (p : ℕ) → p < all_pages layout → IsEntry tables p (pte layout past p)
   pub within : inside past 0 ≡ is_inside activity
+  pub alone : (q : ℕ) → 1 ≤ q → inside past q ≡ false
 
 -- ---- What was reached
 

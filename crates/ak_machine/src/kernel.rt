@@ -1,6 +1,6 @@
 // The kernel's moves.
 ghost use Rattle.std.specs.Prelude.{◌≡◌, ◌+◌, ◌<◌, ◌≤◌, ◌^◌, None, IsTrue};
-ghost use Rattle.ak_machine.specs.Served.{is_served};
+ghost use Rattle.ak_machine.specs.Served.{is_first_or_none, is_served};
 ghost use Rattle.ak_machine.specs.State.{state_of, layout_of};
 ghost use Rattle.ak_machine.specs.Moves.{IsMove, event_in, note_of_move};
 
@@ -48,14 +48,17 @@ impl Machine {
         Answer::Pte(e.frame, e.flags)
     }
 
-    /// The kernel enters on processor 0, with a value.
+    /// The kernel enters on a processor, with a value.
     fn enter(&mut self, lp: Lp, value: u64) -> Answer
-        requires { lp.0 ≡ 0 }
+        requires { IsTrue (is_first_or_none (layout_of self.old) lp.0) }
         ensures layout { layout_of self.new ≡ layout_of self.old }
         ensures moved { IsMove (layout_of self.old) (state_of self.old) (state_of self.new) (Move.Eenter lp value) result
             None }
         ensures count { (state_of self.new).count ≡ (state_of self.old).count }
     {
+        if lp.0 >= self.layout.lps() {
+            return Answer::NoLp;
+        }
         let Activity::Outside(stage) = self.activity else {
             return Answer::Inside;
         };
@@ -63,9 +66,9 @@ impl Machine {
         Answer::Ok
     }
 
-    /// The kernel runs processor 0 for up to so many turns.
+    /// The kernel runs a processor for up to so many turns.
     fn run(&mut self, lp: Lp, turns: u32) -> Applied
-        requires lp { lp.0 ≡ 0 }
+        requires lp { IsTrue (is_first_or_none (layout_of self.old) lp.0) }
         requires some { 1 ≤ turns }
         requires room { (state_of self.old).count + turns < 2 ^ 64 }
         ensures layout { layout_of self.new ≡ layout_of self.old }
@@ -75,6 +78,9 @@ impl Machine {
         ensures completed { (state_of self.new).count ≡ (state_of self.old).count + result.completed }
         ensures few { result.completed ≤ turns }
     {
+        if lp.0 >= self.layout.lps() {
+            return plainly(Answer::NoLp);
+        }
         if let Activity::Outside(_) = self.activity {
             return plainly(Answer::Outside);
         }
@@ -90,7 +96,7 @@ impl Machine {
 
     /// Applies a move of the kernel. It takes no memory.
     pub fn apply(&mut self, m: &Move) -> Applied
-        requires served { IsTrue (is_served m.now) }
+        requires served { IsTrue (is_served (layout_of self.old) m.now) }
         requires room { (state_of self.old).count + 1000000 < 2 ^ 64 }
         ensures layout { layout_of self.new ≡ layout_of self.old }
 

@@ -5,10 +5,12 @@
 mod activity;
 mod applied;
 mod build;
+mod contents;
 mod kernel;
 mod machine;
 mod memory;
 mod permission;
+mod tables;
 #[cfg(test)]
 mod tests;
 

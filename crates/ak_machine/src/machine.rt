@@ -5,8 +5,8 @@ ghost use Rattle.ak_model.specs.Pages.{all_pages};
 ghost use Rattle.ak_core.specs.declared.event.Event.{Event as TheEvent};
 ghost use Rattle.ak_model.specs.Flat.{zeroed};
 ghost use Rattle.ak_model.specs.History.{History};
-ghost use Rattle.ak_model.specs.Walk.{walkable as walkable_lem};
-ghost use Rattle.ak_machine.specs.FirstImage.{IsOnePageLayout};
+ghost use Rattle.ak_model.specs.Walk.{walkable as is_walkable};
+ghost use Rattle.ak_machine.specs.Served.{IsServedLayout};
 ghost use Rattle.ak_machine.specs.Faults.{fault_stage};
 ghost use Rattle.ak_machine.specs.Turning.{note_or};
 
@@ -34,7 +34,7 @@ pub struct Machine {
     pub(crate) activity: Activity,
     /// The program's completed instructions.
     pub(crate) count: u64,
-    ghost served: { IsOnePageLayout layout },
+    ghost served: { IsServedLayout layout },
     ghost program: { regs.mode ≡ Program },
     ghost known: { memory.pages ≡ all_pages layout },
 }
@@ -103,7 +103,7 @@ impl Machine {
         ensures found { result ≡ finds (state_of self.now).tables (record { page = p; kind = k }) }
         ensures walkable { (image : List ℕ) (past : History) (returned shown : List ℕ) (events : List TheEvent) →
             Stands (layout_of self.now) image past (state_of self.now) returned shown events →
-            result ≡ walkable_lem (layout_of self.now) past p.0 k }
+            result ≡ is_walkable (layout_of self.now) past p.0 k }
     {
         self.memory.is_found(Fault { page: p, kind: k })
     }

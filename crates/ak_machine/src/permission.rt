@@ -17,7 +17,7 @@ fn is_allowed(perm: Perm, kind: Kind) -> bool
 }
 
 /// What a page allows. The TCS page, and a page that the enclave does not have, allow nothing.
-fn perm_of(layout: &Layout, p: Page) -> Option<Perm>
+pub(crate) fn perm_of(layout: &Layout, p: Page) -> Option<Perm>
     ensures { result ≡ page_perm layout.now p.0 }
 {
     let pages = layout.perms().len();

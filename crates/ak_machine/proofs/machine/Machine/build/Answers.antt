@@ -1,13 +1,12 @@
-use Rattle.std.proofs.Common.{◌∙◌, ap, sym, refl, length}
-use Rattle.ak_machine.specs.FirstImage.{one_page, page_of}
-use Rattle.ak_machine.specs.Memory.{frame_bytes}
-use Rattle.ak_machine.proofs.Builds.{built}
+use Rattle.std.proofs.Common.{◌≡◌, ◌∙◌, ap, sym, true, false}
+use Rattle.ak_measure.specs.Signers.{allows}
 use Rattle.ak_machine.proofs.machine.Machine.build.Goals as goal
 
-pub returns-clause-built : goal.returns-clause-built
-returns-clause-built c =
-    let m = c.new.result in
-    built one_page c.zeroed_at.result m.table m.epcm m.frames.items (page_of c.args.page.now) refl
-    (c.new.ensures.table ∙ c.in_ok-table.ensures) (c.new.ensures.epcm ∙ c.in_ok-epcm.ensures)
-    (ap length (sym c.in_ok-padded.ensures.page) ∙ c.in_ok-padded.ensures.whole)
-    (ap (λ frames. frame_bytes frames.items 8) c.new.ensures.frames ∙ c.in_ok-frames.ensures.page ∙ c.in_ok-padded.ensures.page)
+pub returns-in-Ok-clause-unsigned : goal.returns-in-Ok-clause-unsigned
+returns-in-Ok-clause-unsigned c =
+    let signers = c.args.signers.now in
+    let allowed : allows signers c.args.image.now.signer _ ≡ true =
+    ap (allows signers c.args.image.now.signer) (sym c.digest.ensures)
+    ∙ ap (λ name. allows signers name c.digest.result) (sym c.signer-2.ensures)
+    ∙ sym c.if-not-allows.ensures in
+    (λ e. cc, λ refused. let wrong : false ≡ true = sym refused.1 ∙ allowed in cc)
