@@ -1,74 +1,184 @@
 -- How a command ends, by what its steps say.
-use Rattle.std.proofs.Common.{◌≡◌, ℕ, List, [], ◌∷◌, refl, sym, ◌∙◌, ap, inl, inr}
+use Rattle.std.proofs.Common.{◌≡◌, ℕ, false, true, List, [], ◌∷◌, ◌++◌, refl, sym, ◌∙◌, ap, subst, inl, inr, ◌⊎◌}
 use Rattle.std.proofs.lemmas.List.{append-nil}
-use Rattle.std.specs.Prelude.{Result, Ok, Err}
+use Rattle.std.specs.Prelude.{Bool, IsTrue, Option, Some, None, Result, Ok, Err, not, if◌then◌else◌}
 use Rattle.ak_core.specs.Journal.{Journal}
-use Rattle.ak_core.specs.declared.moves.Move.{Move}
-use Rattle.ak_outside.specs.Reads.{Asks}
-use Rattle.ak_outside.specs.declared.files.FilesFault.{FilesFault}
-use Rattle.ak_outside.specs.declared.files.FilesFault.TheVariants.{Failed, TooLong as TooLongFile, OutOfMemory as OutOfMemoryFile}
-use Rattle.ak_top.specs.Words.{Names}
-use Rattle.ak_top.specs.Trouble.{trouble_of_read}
-use Rattle.ak_top.specs.Seen.{FilesSeen, SinkSeen}
-use Rattle.ak_top.specs.Script.{script_of, Read}
-use Rattle.ak_machine.specs.FirstImage.{page_of}
-use Rattle.ak_top.specs.Steps.{IsJournalOn, Writes}
-use Rattle.ak_top.specs.Top.{ReadsFile, AcceptsImage, IsJournalOf, Ends, AsksTo, AsksBy}
-use Rattle.ak_top.specs.declared.trouble.Place.TheVariants.{Image, Script}
+use Rattle.ak_measure.specs.Signers.{knows, allows}
+use Rattle.ak_measure.specs.Stages.{◌>>=◌}
+use Rattle.ak_image.specs.Image.{Image}
+use Rattle.ak_top.specs.Ends.{digest_text, IsTextOf, Writes, WritesFront, Stops, EndsAt, Ends, Does, WritesText, Runs}
+use Rattle.ak_top.specs.Inputs.{Task, Report, Digest, image_in, signers_in, inputs_in, signed, task_in, where_well, asked_in}
+use Rattle.ak_top.specs.Journals.{IsJournalOf}
+use Rattle.ak_top.specs.Reads.{IsDue, is_foreign, is_too_long, AsksFront, AsksBy, AsksUpTo, ReadsFile, Reads}
+use Rattle.ak_top.specs.Report.{report_of}
+use Rattle.ak_top.specs.Seen.{FilesState, SinkState, Contents, files_of}
+use Rattle.ak_image.specs.Built.{digest_of}
+use Rattle.ak_top.specs.Words.{Names, Command, Run, Measure}
+use Rattle.ak_top.specs.declared.inputs.Inputs.{Inputs}
+use Rattle.ak_top.specs.declared.trouble.Place.{Place}
 use Rattle.ak_top.specs.declared.trouble.Trouble.{Trouble}
-use Rattle.ak_top.specs.declared.trouble.Trouble.TheVariants.{Usage, ReadFailed, TooLong, ImageRefused, ScriptRefused, WriteFailed, OutOfMemory}
+use Rattle.ak_top.specs.declared.trouble.Trouble.TheVariants.{Usage, ReadFailed, TooLong, ImageRefused, SignersRefused, ScriptRefused, UnknownSigner, NotSigned, WriteFailed, OutOfMemory}
+use Rattle.ak_top.proofs.FileReads.{err_as, due_err, value_is, due_then}
+use Rattle.ak_top.proofs.InputReads.{image_read}
 
--- a journal of the moves that the files' script says, over the page that their image fills
-pub of_files : (files : FilesSeen) (names : Names) (image script : List ℕ) (moves : List Move) (journal : Journal) →
-    AcceptsImage files names image → ReadsFile files names.script script → script_of script ≡ Read moves →
-    IsJournalOn (page_of image) moves journal → IsJournalOf files names journal
-of_files files names image script moves journal accepted read says on =
-    record {
-      image = image;
-      accepted = accepted;
-      script = script;
-      read = read;
-      moves = says ∙ ap Read (sym on.moves_are);
-      outputs = on.outputs;
-      events = on.events;
-      answers = on.answers;
-      reached = on.reached;
-      breaks = on.breaks;
-      unmissed = on.unmissed;
-      stop = on.stop;
-    }
+-- ---- How a text ends a command
 
--- a report that was written, or not whole
-pub written : (result : Result (Unit {0}) Trouble) (files : FilesSeen) (names : Names) (out : SinkSeen) (journal : Journal) →
-    IsJournalOf files names journal → Writes result journal out → Ends result files names out
-written (Ok u) files names out journal of w = record { journal = journal; of_files = of; text = w }
-written (Err Usage) files names out journal of w = w
-written (Err (ReadFailed place)) files names out journal of w = absurd w
-written (Err (TooLong place)) files names out journal of w = absurd w
-written (Err ImageRefused) files names out journal of w = absurd w
-written (Err (ScriptRefused line)) files names out journal of w = absurd w
-written (Err WriteFailed) files names out journal of w = record { journal = journal; of_files = of; text = w.0; rose = w.1 }
-written (Err OutOfMemory) files names out journal of w = tt
+pub text_ends : (task : Task) (text : List ℕ) (wanted : Result Task Trouble) (out out' : SinkState) (rest : Result (Unit {0}) Trouble) →
+    IsTextOf task text → wanted ≡ Ok task → WritesText rest text out out' → Ends rest wanted out out'
+text_ends task text wanted out out' (Ok u) is due w = record { task = task; due = due; text = text; is = is; taken = w }
+text_ends task text wanted out out' (Err WriteFailed) is due w = record { task = task; due = due; text = text; is = is; taken = w.0; rose = w.1 }
+text_ends task text wanted out out' (Err OutOfMemory) is due w = w
+text_ends task text wanted out out' (Err _) is due w = absurd w
 
--- both names were asked
-pub both_asked : (result : Result (Unit {0}) Trouble) (files : FilesSeen) (names : Names) (out : SinkSeen) (journal : Journal) →
-    Writes result journal out → AsksTo files Script names → AsksBy result files names
-both_asked (Ok u) files names out journal w asked = asked
-both_asked (Err Usage) files names out journal w asked = w
-both_asked (Err (ReadFailed place)) files names out journal w asked = absurd w
-both_asked (Err (TooLong place)) files names out journal w asked = absurd w
-both_asked (Err ImageRefused) files names out journal w asked = absurd w
-both_asked (Err (ScriptRefused line)) files names out journal w asked = asked
-both_asked (Err WriteFailed) files names out journal w asked = asked
-both_asked (Err OutOfMemory) files names out journal w asked =
-    record { front = names.image ∷ names.script ∷ []; rest = []; whole = refl; asked = asked }
+-- a trouble before any text
+pub trouble_ends : (trouble : Trouble) (wanted : Result Task Trouble) (out out' : SinkState) → is_foreign trouble ≡ false → IsDue wanted (Err trouble) →
+    out'.taken ≡ out.taken → Ends (Err trouble) wanted out out'
+trouble_ends WriteFailed wanted out out' own due still = absurd (cc)
+trouble_ends OutOfMemory wanted out out' own due still = still
+trouble_ends _ wanted out out' own (inl e) still = record { due = sym e; still = still }
+trouble_ends _ wanted out out' own (inr e) still = absurd (cc)
 
--- the image was asked for, and perhaps not noted where memory ran out
-pub image_asked : (T : Type 0) (fault : FilesFault) (files : FilesSeen) (names : Names) →
-    Asks {T = T} files.asked_before files.asked names.image (Err fault) → AsksBy (Err (trouble_of_read fault Image)) files names
-image_asked T Failed files names asks = asks
-image_asked T TooLongFile files names asks = asks
-image_asked T OutOfMemoryFile files names (inl noted) =
-    record { front = names.image ∷ []; rest = names.script ∷ []; whole = refl; asked = noted }
-image_asked T OutOfMemoryFile files names (inr same) =
-    record { front = []; rest = names.image ∷ names.script ∷ []; whole = refl; asked = same ∙ sym (append-nil files.asked_before) }
+no_usage : (trouble : Trouble) → is_foreign trouble ≡ false → ◌≡◌ {A = Result (Unit {0}) Trouble} (Err trouble) (Err Usage) → ⊥
+no_usage trouble own e = let is : trouble ≡ Usage = cc in let wrong : true ≡ false = sym (ap is_foreign is) ∙ own in cc
+
+-- ---- The names that were asked
+
+-- those that are due are the first of the command's
+record IsFront (names all : List (List ℕ)) : Type 0 where
+  rest : List (List ℕ)
+  whole : names ++ rest ≡ all
+
+front_well : {A : Type 0} (r : Result A Trouble) (name : List ℕ) (names all : List (List ℕ)) → IsFront names all → IsFront (name ∷ where_well r names) (name ∷ all)
+front_well (Ok x) name names all f = record { rest = f.rest; whole = ap (λ xs. name ∷ xs) f.whole }
+front_well (Err t) name names all f = record { rest = all; whole = refl }
+
+due_front : (command : Command) (seen : Contents) → IsFront (asked_in (Some command) seen) (files_of (Some command))
+due_front (Run names) seen =
+    front_well (image_in seen.image) names.image _ _ (front_well (signers_in seen.signers) names.signers _ _ (record { rest = []; whole = refl }))
+due_front (Measure image) seen = record { rest = []; whole = refl }
+
+asks_all : (ending : Result (Unit {0}) Trouble) (command : Command) (seen : Contents) (asked asked' : List (List ℕ)) → asked' ≡ asked ++ asked_in (Some command) seen →
+    AsksBy ending (Some command) seen asked asked'
+asks_all (Ok u) command seen asked asked' e = e
+asks_all (Err OutOfMemory) command seen asked asked' e =
+    let f = due_front command seen in record { front = asked_in (Some command) seen; rest = f.rest; whole = f.whole; more = e }
+asks_all (Err _) command seen asked asked' e = e
+
+-- ---- A command, after its files
+
+module _ {A : Type 0} (command : Command) (said : Contents → Result A Trouble) (next : A → Result Task Trouble) (files files' : FilesState)
+    (is : (seen : Contents) → task_in (Some command) seen ≡ (said seen >>= next)) where
+  -- the files ended it
+  pub files_end : (trouble : Trouble) (out : SinkState) → Reads said command files files' (Err trouble) → Does command files files' out out (Err trouble)
+  files_end trouble out r =
+      let due : IsDue (task_in (Some command) r.seen) (Err trouble) = subst (λ wanted. IsDue wanted (Err trouble)) (sym (is r.seen)) (due_err (said r.seen) next trouble r.due) in
+      record {
+        seen = r.seen;
+        sees = r.sees;
+        ends = trouble_ends trouble (task_in (Some command) r.seen) out out r.own due refl;
+        failed = λ p e. r.failed p (err_as trouble (ReadFailed p) e);
+        worded = no_usage trouble r.own;
+        long = r.long;
+        asked = r.asked;
+      }
+
+  -- the files said something, and it ended after that
+  pub ends_after : (x : A) (ending : Result (Unit {0}) Trouble) (out out' : SinkState) → Reads said command files files' (Ok x) → Ends ending (next x) out out' →
+      ((place : Place) → ending ≡ Err (ReadFailed place) → ⊥) → is_too_long ending ≡ false → (ending ≡ Err Usage → ⊥) → Does command files files' out out' ending
+  ends_after x ending out out' r ends read short worded =
+      let due : task_in (Some command) r.seen ≡ next x = is r.seen ∙ ap (λ given. given >>= next) (value_is (said r.seen) x r.due) in
+      record {
+        seen = r.seen;
+        sees = r.sees;
+        ends = subst (λ wanted. Ends ending wanted out out') (sym due) ends;
+        failed = λ p e. absurd (read p e);
+        worded = worded;
+        long = short ∙ r.long;
+        asked = λ t. asks_all ending command r.seen files.asked files'.asked (r.asked t);
+      }
+
+-- ---- What texts and runs end in
+
+-- a text that was written, or not, is no trouble of files or words
+text_read : (ending : Result (Unit {0}) Trouble) (text : List ℕ) (out out' : SinkState) → WritesText ending text out out' → (place : Place) → ending ≡ Err (ReadFailed place) → ⊥
+text_read ending text out out' w place e =
+    let P : Result (Unit {0}) Trouble → Type 0 = λ r. WritesText r text out out' in subst P e w
+
+text_worded : (ending : Result (Unit {0}) Trouble) (text : List ℕ) (out out' : SinkState) → WritesText ending text out out' → ending ≡ Err Usage → ⊥
+text_worded ending text out out' w e =
+    let P : Result (Unit {0}) Trouble → Type 0 = λ r. WritesText r text out out' in subst P e w
+
+text_short : (ending : Result (Unit {0}) Trouble) (text : List ℕ) (out out' : SinkState) → WritesText ending text out out' → is_too_long ending ≡ false
+text_short (Ok u) text out out' w = refl
+text_short (Err (TooLong place)) text out out' w = absurd w
+text_short (Err _) text out out' w = refl
+
+-- the measurement of an image
+pub measured : (name : List ℕ) (files files' : FilesState) (out out' : SinkState) (image : Image) (ending : Result (Unit {0}) Trouble) →
+    ReadsFile image_in name files files' (Ok image) → WritesText ending (digest_text (digest_of image)) out out' → Does (Measure name) files files' out out' ending
+measured name files files' out out' image ending r w =
+    let text = digest_text (digest_of image) in
+    ends_after (Measure name) (λ seen. image_in seen.image) (λ image. Ok (Digest image)) files files' (λ seen. refl) image ending out out' (image_read name files files' (Ok image) r)
+    (text_ends (Digest image) text (Ok (Digest image)) out out' ending refl refl w) (text_read ending text out out' w) (text_short ending text out out' w) (text_worded ending text out out' w)
+
+pub unmeasured : (name : List ℕ) (files files' : FilesState) (out : SinkState) (trouble : Trouble) → ReadsFile image_in name files files' (Err trouble) →
+    Does (Measure name) files files' out out (Err trouble)
+unmeasured name files files' out trouble r =
+    files_end (Measure name) (λ seen. image_in seen.image) (λ image. Ok (Digest image)) files files' (λ seen. refl) trouble out (image_read name files files' (Err trouble) r)
+
+-- ---- A run
+
+-- what is to be written of inputs
+abbrev reported : Inputs → Result Task Trouble
+reported inputs = signed inputs >>= λ built. Ok (Report built)
+
+pub not_run : (names : Names) (files files' : FilesState) (out : SinkState) (trouble : Trouble) → Reads inputs_in (Run names) files files' (Err trouble) →
+    Does (Run names) files files' out out (Err trouble)
+not_run names files files' out trouble r = files_end (Run names) inputs_in reported files files' (λ seen. refl) trouble out r
+
+-- the image was not signed, or memory ran out
+signed_by : (a b : Bool) (inputs : Inputs) (trouble : Trouble) → (if not a then Err UnknownSigner else if not b then Err NotSigned else Ok inputs) ≡ Err trouble →
+    (trouble ≡ UnknownSigner) ⊎ (trouble ≡ NotSigned)
+signed_by false b inputs trouble e = inl (cc)
+signed_by true false inputs trouble e = inr (cc)
+signed_by true true inputs trouble e = absurd (cc)
+
+record IsOfRun (trouble : Trouble) : Type 0 where
+  own : is_foreign trouble ≡ false
+  read : (place : Place) → trouble ≡ ReadFailed place → ⊥
+  short : is_too_long {A = Unit {0}} (Err trouble) ≡ false
+
+-- the three troubles of a run
+unknown_of_run : IsOfRun UnknownSigner
+unknown_of_run = record { own = refl; read = λ p e. cc; short = refl }
+
+unsigned_of_run : IsOfRun NotSigned
+unsigned_of_run = record { own = refl; read = λ p e. cc; short = refl }
+
+memory_of_run : IsOfRun OutOfMemory
+memory_of_run = record { own = refl; read = λ p e. cc; short = refl }
+
+of_run : (inputs : Inputs) (trouble : Trouble) → Runs (Err trouble) inputs → IsOfRun trouble
+of_run inputs trouble (inl e) =
+    elim (signed_by (knows inputs.signers inputs.image.signer) (allows inputs.signers inputs.image.signer (digest_of inputs.image)) inputs trouble e)
+    [ inl is ↦ subst IsOfRun (sym is) unknown_of_run | inr is ↦ subst IsOfRun (sym is) unsigned_of_run ]
+of_run inputs trouble (inr e) = subst IsOfRun (sym e) memory_of_run
+
+run_due : (inputs : Inputs) (trouble : Trouble) → Runs (Err trouble) inputs → IsDue (reported inputs) (Err trouble)
+run_due inputs trouble (inl e) = inl (sym (ap (λ r. r >>= λ built. Ok (Report built)) e))
+run_due inputs trouble (inr e) = inr (ap (λ t. Err t) e)
+
+pub unsigned : (names : Names) (files files' : FilesState) (out : SinkState) (inputs : Inputs) (trouble : Trouble) → Reads inputs_in (Run names) files files' (Ok inputs) →
+    Runs (Err trouble) inputs → Does (Run names) files files' out out (Err trouble)
+unsigned names files files' out inputs trouble r h =
+    let own = of_run inputs trouble h in
+    ends_after (Run names) inputs_in reported files files' (λ seen. refl) inputs (Err trouble) out out r
+    (trouble_ends trouble (reported inputs) out out own.own (run_due inputs trouble h) refl) (λ p e. own.read p (cc)) own.short (no_usage trouble own.own)
+
+pub ran : (names : Names) (files files' : FilesState) (out out' : SinkState) (inputs : Inputs) (journal : Journal) (ending : Result (Unit {0}) Trouble) →
+    Reads inputs_in (Run names) files files' (Ok inputs) → Runs (Ok journal) inputs → WritesText ending (report_of journal) out out' → Does (Run names) files files' out out' ending
+ran names files files' out out' inputs journal ending r h w =
+    let text = report_of journal in
+    ends_after (Run names) inputs_in reported files files' (λ seen. refl) inputs ending out out' r
+    (text_ends (Report inputs) text (reported inputs) out out' ending (journal, h.1, refl) (ap (λ r. r >>= λ built. Ok (Report built)) h.0) w)
+    (text_read ending text out out' w) (text_short ending text out out' w) (text_worded ending text out out' w)

@@ -1,7 +1,8 @@
+pub mod FileReads
+pub mod InputReads
 pub mod Returned
 pub mod SoundTurns
 pub mod Sessions
-pub mod Digits
-pub mod ScriptLines
+pub mod Signing
 pub mod Endings
 pub mod Statuses

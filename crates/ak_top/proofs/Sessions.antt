@@ -26,11 +26,10 @@ use Rattle.ak_machine.specs.State.{State}
 use Rattle.ak_machine.specs.Controls.{control_of}
 use Rattle.ak_machine.specs.Stands.{unshown}
 use Rattle.ak_machine.specs.SoundTurns.{IsSoundTurn, AreSound}
-use Rattle.ak_machine.specs.FirstImage.{one_page}
 use Rattle.ak_machine.specs.Built.{IsBuilt}
 use Rattle.ak_machine.specs.Moves.{DoesMove, first_then, output_of_answer}
 use Rattle.ak_top.specs.Faithful.{Faithful}
-use Rattle.ak_top.specs.Steps.{IsJournalOn}
+use Rattle.ak_top.specs.Journals.{IsJournalOn}
 use Rattle.ak_top.proofs.Returned.{returned-grows}
 use Rattle.ak_top.proofs.SoundTurns.{are_sound-longer, are_reached, are_forced}
 
@@ -218,16 +217,16 @@ module _ (layout : Layout) (image : List ℕ) (state : State) (j : Journal) (f :
       record { turns_break = of_journal P (are_forced layout (flat_run layout image f.values) f.turns f.sound) }
 
 -- the journal of these moves
-pub faithful_journal : (page : List ℕ) (state : State) (moves : List Move) (j : Journal) → Faithful one_page page state j → j.moves ≡ moves →
-    IsJournalOn page moves j
-faithful_journal page state moves j f moves_are =
+pub faithful_journal : (layout : Layout) (program : List ℕ) (state : State) (moves : List Move) (j : Journal) → Faithful layout program state j → j.moves ≡ moves →
+    IsJournalOn layout program moves j
+faithful_journal layout program state moves j f moves_are =
     record {
       moves_are = moves_are;
-      outputs = faithful_outputs one_page page state j f;
-      events = faithful_events one_page page state j f;
-      answers = faithful_answers one_page page state j f;
-      reached = faithful_reached one_page page state j f;
-      breaks = faithful_breaks one_page page state j f;
+      outputs = faithful_outputs layout program state j f;
+      events = faithful_events layout program state j f;
+      answers = faithful_answers layout program state j f;
+      reached = faithful_reached layout program state j f;
+      breaks = faithful_breaks layout program state j f;
       unmissed = f.stands.tape.unmissed;
       stop = f.unstopped;
     }

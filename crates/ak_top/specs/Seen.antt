@@ -1,27 +1,54 @@
--- What a call did with the files and the sinks that were handed in.
-use Rattle.std.specs.Prelude.{ℕ, Bool, List, Option}
+-- Files and sinks at a moment, and what a command sees of its files.
+use Rattle.std.specs.Prelude.{◌≡◌, ℕ, ◌⊎◌, Bool, List, [], ◌∷◌, Option, Some, None}
+use Rattle.ak_outside.specs.Causes.{Rose}
+use Rattle.ak_top.specs.Words.{Names, Command, Run, Measure}
 
--- what the names hold, and what was asked and counted before and after
-pub record FilesSeen : Type 0 where
-  pub tells : Bool  -- what is said of content and names counts only where this is true
+-- files at a moment: what is said of content and names counts only where they tell
+pub record FilesState : Type 0 where
+  pub tells : Bool
   pub content : List ℕ → Option (List ℕ)
-  pub asked_before : List (List ℕ)
   pub asked : List (List ℕ)
-  pub faults_before : ℕ
   pub faults : ℕ
   pub handed : ℕ  -- by the last read
 
-abbrev pub files_seen : Bool → (List ℕ → Option (List ℕ)) → List (List ℕ) → List (List ℕ) → ℕ → ℕ → ℕ → FilesSeen
-files_seen tells content asked_before asked faults_before faults handed =
-    record { tells = tells; content = content; asked_before = asked_before; asked = asked; faults_before = faults_before; faults = faults; handed = handed }
+abbrev pub files_at : {F : Type 0} → (F → Bool) → (F → List ℕ → Option (List ℕ)) → (F → List (List ℕ)) → (F → ℕ) → (F → ℕ) → F → FilesState
+files_at tells content asked faults handed files =
+    record { tells = tells files; content = content files; asked = asked files; faults = faults files; handed = handed files }
 
--- what was taken, where the sink tells it, and counted before and after
-pub record SinkSeen : Type 0 where
-  pub taken_before : Option (List ℕ)
+-- a sink at a moment: what it took so far, where it tells that
+pub record SinkState : Type 0 where
   pub taken : Option (List ℕ)
-  pub faults_before : ℕ
   pub faults : ℕ
 
-abbrev pub sink_seen : Option (List ℕ) → Option (List ℕ) → ℕ → ℕ → SinkSeen
-sink_seen taken_before taken faults_before faults =
-    record { taken_before = taken_before; taken = taken; faults_before = faults_before; faults = faults }
+abbrev pub sink_at : {S : Type 0} → (S → Option (List ℕ)) → (S → ℕ) → S → SinkState
+sink_at taken faults sink = record { taken = taken sink; faults = faults sink }
+
+-- ---- A command's files
+
+-- the names of a command's files, in the order in which it asks for them
+abbrev pub files_of : Option Command → List (List ℕ)
+files_of None = []
+files_of (Some (Run names)) = names.image ∷ names.signers ∷ names.script ∷ []
+files_of (Some (Measure image)) = image ∷ []
+
+-- the bytes of each of a command's files, where it has the file and its name holds some
+pub record Contents : Type 0 where
+  pub image : Option (List ℕ)
+  pub signers : Option (List ℕ)
+  pub script : Option (List ℕ)
+
+-- what the names of a command hold
+abbrev pub contents_of : (List ℕ → Option (List ℕ)) → Option Command → Contents
+contents_of content None = record { image = None; signers = None; script = None }
+contents_of content (Some (Run names)) = record { image = content names.image; signers = content names.signers; script = content names.script }
+contents_of content (Some (Measure image)) = record { image = content image; signers = None; script = None }
+
+-- what was seen of a file, of what its name holds: all of it, or nothing where a fault rose
+abbrev pub IsSeen : ℕ → ℕ → Option (List ℕ) → Option (List ℕ) → Type 0
+IsSeen before now held seen = (seen ≡ held) ⊎ ((seen ≡ None) × Rose before now)
+
+-- the same of a command's files
+pub record AreSeen (before now : ℕ) (held seen : Contents) : Type 0 where
+  pub image : IsSeen before now held.image seen.image
+  pub signers : IsSeen before now held.signers seen.signers
+  pub script : IsSeen before now held.script seen.script

@@ -2,10 +2,16 @@
 use Rattle.std.specs.Prelude.{ℕ, List, [], ◌∷◌, Bool, false, ◌&&◌, not, codes, Option, Some, None, ◌==◌, if◌then◌else◌}
 use Rattle.std.specs.Str.{bytes_eq}
 
--- the files that a command names
+-- the files of a run
 pub record Names : Type 0 where
   pub image : List ℕ
+  pub signers : List ℕ
   pub script : List ℕ
+
+-- what words ask for: the report of a run, or the measurement of an image
+pub data Command : Type 0 where
+  Run : (names : Names) → Command
+  Measure : (image : List ℕ) → Command
 
 -- a word that begins with a dash
 abbrev pub begins_with_dash : List ℕ → Bool
@@ -16,14 +22,12 @@ begins_with_dash (b ∷ word) = b == 45
 abbrev pub is_value : List ℕ → Bool
 is_value word = not (begins_with_dash word)
 
--- the files of `run IMAGE SIGNERS SCRIPT`; the signers are not read yet
-abbrev pub names_by : List ℕ → List ℕ → List ℕ → List ℕ → Option Names
-names_by command image signers script =
+-- the command that these words give, if they give one: `run IMAGE SIGNERS SCRIPT` or `measure IMAGE`
+abbrev pub words_of : List (List ℕ) → Option Command
+words_of (command ∷ image ∷ []) =
+    if bytes_eq command (codes "measure") && is_value image then Some (Measure image) else None
+words_of (command ∷ image ∷ signers ∷ script ∷ []) =
     if bytes_eq command (codes "run") && (is_value image && (is_value signers && is_value script))
-    then Some (record { image = image; script = script })
+    then Some (Run (record { image = image; signers = signers; script = script }))
     else None
-
--- the files of the command that these words give, if they give one
-abbrev pub words_of : List (List ℕ) → Option Names
-words_of (command ∷ image ∷ signers ∷ script ∷ []) = names_by command image signers script
 words_of _ = None

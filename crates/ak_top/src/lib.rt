@@ -2,8 +2,10 @@
 //! script's moves to the image's enclave, and writes the report of its journal.
 #![tactic(auto)]
 
+mod inputs;
+mod measure;
 mod report;
-mod script;
+mod run;
 mod session;
 #[cfg(test)]
 mod tests;

@@ -3,11 +3,11 @@ ghost use Rattle.std.specs.Prelude.{◌≡◌, ◌+◌, ◌<◌, ◌≤◌, ◌^
 ghost use Rattle.std.specs.List.{list_all};
 ghost use Rattle.ak_core.specs.Journal.{SameLists};
 ghost use Rattle.ak_machine.specs.Served.{is_served};
-ghost use Rattle.ak_machine.specs.FirstImage.{one_page, page_of};
+ghost use Rattle.ak_machine.specs.Built.{IsBuilt};
 ghost use Rattle.ak_machine.specs.State.{state_of, layout_of};
 ghost use Rattle.ak_machine.specs.Moves.{output_of_answer, event_in};
 ghost use Rattle.ak_top.specs.Faithful.{Faithful};
-ghost use Rattle.ak_top.specs.Steps.{IsJournalOn};
+ghost use Rattle.ak_top.specs.Journals.{IsJournalOn};
 
 use ak_core::{Answer, Event, Exit, Journal, Layout, Move, OutOfMemory};
 use ak_machine::{Machine, ProgramNote, is_forbidden};
@@ -57,25 +57,25 @@ fn event_of(layout: &Layout, note: ProgramNote, count: u64) -> Option<Event>
 }
 
 impl Session {
-    /// The machine at the end of the build of a page with these bytes, and zeros after them, with the empty journal.
-    pub fn begin(alloc: Global, page: &[u8]) -> Result<Session, OutOfMemory>
-        requires { length page.now ≤ 4096 }
-        ensures layout { IfOk result (λ session. layout_of session.machine ≡ one_page) }
-        ensures faithful { IfOk result (λ session. Faithful one_page (page_of page.now) (state_of session.machine) session.journal) }
-        ensures moves { IfOk result (λ session. session.journal.moves ≡ []) }
-        ensures count { IfOk result (λ session. session.count ≡ 0) }
+    /// The machine at the end of a build, with the empty journal.
+    pub fn begin(alloc: Global, machine: Machine) -> Session
+        requires { (state_of machine).count ≡ 0 }
+        ensures layout { layout_of result.machine ≡ layout_of machine }
+        ensures faithful { (program : List ℕ) → IsBuilt (layout_of machine) program (state_of machine) →
+            Faithful (layout_of machine) program (state_of result.machine) result.journal }
+        ensures moves { result.journal.moves ≡ [] }
+        ensures count { result.count ≡ 0 }
     {
-        let machine = Machine::build(alloc, page)?;
-        Ok(Session {
+        Session {
             machine,
             journal: Journal::new(alloc),
             count: 0,
-        })
+        }
     }
 
     /// Applies a move and writes it into the journal. Where memory runs out, nothing is applied.
     pub fn apply(&mut self, m: Move) -> Result<(), OutOfMemory>
-        requires served { IsTrue (is_served m) }
+        requires served { IsTrue (is_served (layout_of self.old.machine) m) }
         requires room { self.old.count + 1000000 < 2 ^ 64 }
         ensures layout { layout_of self.new.machine ≡ layout_of self.old.machine }
         ensures faithful { (image : List ℕ) →
@@ -96,15 +96,16 @@ impl Session {
     }
 }
 
-/// Applies these moves from the build on. The journal agrees with the program over memory that is never paged, its answers
-/// are a function of the layout, the moves and the events, and walks account for what the program accessed.
-pub fn run_moves(alloc: Global, page: &[u8], moves: &[Move]) -> Result<Journal, OutOfMemory>
-    requires fits { length page.now ≤ 4096 }
-    requires served { IsTrue (list_all is_served moves.now) }
+/// Applies these moves to a machine from its build on. The journal agrees with the program over memory that is never paged,
+/// its answers are a function of the layout, the moves and the events, and walks account for what the program accessed.
+pub fn run_moves(alloc: Global, machine: Machine, moves: &[Move]) -> Result<Journal, OutOfMemory>
+    requires start { (state_of machine).count ≡ 0 }
+    requires served { IsTrue (list_all (is_served (layout_of machine)) moves.now) }
     requires few { length moves.now < 2 ^ 31 }
-    ensures { IfOk result (IsJournalOn (page_of page.now) moves.now) }
+    ensures { (program : List ℕ) → IsBuilt (layout_of machine) program (state_of machine) →
+        IfOk result (IsJournalOn (layout_of machine) program moves.now) }
 {
-    let mut session = Session::begin(alloc, page)?;
+    let mut session = Session::begin(alloc, machine);
     for m in moves {
         session.apply(*m)?;
     }

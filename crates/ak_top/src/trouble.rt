@@ -1,30 +1,37 @@
-// Why a command ends without a report, and how that is told.
+// Why a command ends without its text, and how that is told.
 ghost use Rattle.std.specs.Prelude.{◌≡◌, ◌++◌, OnOk, OnErr, Some, None, Option};
 ghost use Rattle.std.specs.Option.{option_map};
 ghost use Rattle.ak_outside.specs.Causes.{HasCause};
 ghost use Rattle.ak_outside.specs.Taken.{with_more, TakesFront};
 ghost use Rattle.ak_outside.specs.declared.sink.SinkFault.TheVariants.{Failed};
-ghost use Rattle.ak_top.specs.NamesGiven.{names_given};
+ghost use Rattle.ak_top.specs.CommandGiven.{command_given};
+ghost use Rattle.ak_top.specs.Refusals.{image_refusal, signers_refusal, script_refusal, page_of as the_page};
 ghost use Rattle.ak_top.specs.Told.{Told};
-ghost use Rattle.ak_top.specs.Trouble.{trouble_of_read, status_of, name_at, head_of, place_of, tail_of, line_of};
+ghost use Rattle.ak_top.specs.Trouble.{trouble_of_read, trouble_of_image, trouble_of_signers, trouble_of_script, trouble_of_build, status_of, name_at, head_of, place_of, tail_of, line_of};
 
-use crate::words::Names;
-use ak_outside::{FilesFault, Sink, SinkFault, write_three};
+use crate::words::{Command, Names};
+use ak_core::{BuildFault, Page};
+use ak_image::ImageFault;
+use ak_measure::SignersFault;
+use ak_outside::{FilesFault, Sink, SinkFault, write_three, write_two};
+use ak_script::{Kind, ScriptFault};
 use itoa::Buffer;
 
 const USAGE: &str =
     "usage: autarky run IMAGE SIGNERS SCRIPT [--frames N] [--processors N] or measure IMAGE or demo NUMBER";
 
-/// One of the command's files.
+/// One of a command's files.
 #[derive(Clone, Copy, PartialEq, Eq, Debug)]
 pub enum Place {
     /// The image.
     Image,
+    /// The signers.
+    Signers,
     /// The script.
     Script,
 }
 
-/// Why a command ends without a report.
+/// Why a command ends without its text.
 #[derive(Clone, Copy, PartialEq, Eq, Debug)]
 pub enum Trouble {
     /// The words give no command.
@@ -33,11 +40,17 @@ pub enum Trouble {
     ReadFailed(Place),
     /// A file has more bytes than a file may have.
     TooLong(Place),
-    /// The image has more bytes than its page.
-    ImageRefused,
-    /// This line of the script is no move, the first such line.
-    ScriptRefused(u32),
-    /// The report could not be written.
+    /// The image is refused.
+    ImageRefused(ImageFault),
+    /// The signers are refused.
+    SignersRefused(SignersFault),
+    /// The script is refused at this line, the first that is.
+    ScriptRefused(u32, Kind),
+    /// The signers have no name that is the image's signer.
+    UnknownSigner,
+    /// The image's signer did not sign its measurement.
+    NotSigned,
+    /// The text could not be written.
     WriteFailed,
     /// Memory ran out.
     OutOfMemory,
@@ -55,14 +68,58 @@ impl Trouble {
         }
     }
 
+    /// The trouble of bytes that are no image.
+    pub fn of_image(fault: ImageFault) -> Trouble
+        ensures { result ≡ trouble_of_image fault }
+    {
+        match fault {
+            ImageFault::OutOfMemory => Trouble::OutOfMemory,
+            _ => Trouble::ImageRefused(fault),
+        }
+    }
+
+    /// The trouble of bytes that are no signers.
+    pub fn of_signers(fault: SignersFault) -> Trouble
+        ensures { result ≡ trouble_of_signers fault }
+    {
+        match fault {
+            SignersFault::OutOfMemory => Trouble::OutOfMemory,
+            _ => Trouble::SignersRefused(fault),
+        }
+    }
+
+    /// The trouble of bytes that are no script.
+    pub fn of_script(fault: ScriptFault) -> Trouble
+        ensures { result ≡ trouble_of_script fault }
+    {
+        match fault {
+            ScriptFault::OutOfMemory => Trouble::OutOfMemory,
+            ScriptFault::Refused { line, why } => Trouble::ScriptRefused(line, why),
+        }
+    }
+
+    /// The trouble of an image that is not built.
+    pub fn of_build(fault: BuildFault) -> Trouble
+        ensures { result ≡ trouble_of_build fault }
+    {
+        match fault {
+            BuildFault::UnknownSigner => Trouble::UnknownSigner,
+            BuildFault::MeasurementNotSigned => Trouble::NotSigned,
+            BuildFault::OutOfMemory => Trouble::OutOfMemory,
+        }
+    }
+
     /// The status with which the program ends.
     pub fn status(self) -> u8
         ensures { result ≡ status_of self }
     {
         match self {
             Trouble::Usage => 2,
-            Trouble::ImageRefused => 3,
-            Trouble::ScriptRefused(_) => 4,
+            Trouble::ImageRefused(_) => 3,
+            Trouble::SignersRefused(_) => 3,
+            Trouble::UnknownSigner => 3,
+            Trouble::NotSigned => 3,
+            Trouble::ScriptRefused(_, _) => 4,
             Trouble::ReadFailed(_) => 5,
             Trouble::WriteFailed => 6,
             Trouble::OutOfMemory => 7,
@@ -75,45 +132,124 @@ impl Trouble {
     {
         match self {
             Trouble::Usage => USAGE,
-            Trouble::ImageRefused => "image refused: 9 pagebytes page 0",
-            Trouble::ScriptRefused(_) => "script refused: line ",
             Trouble::ReadFailed(_) => "read failed: ",
+            Trouble::TooLong(_) => "file too long: ",
+            Trouble::ImageRefused(fault) => image_refused(fault),
+            Trouble::SignersRefused(fault) => signers_refused(fault),
+            Trouble::ScriptRefused(_, _) => "script refused: line ",
+            Trouble::UnknownSigner => "image refused: 12 unknownsigner",
+            Trouble::NotSigned => "image refused: 13 notsigned",
             Trouble::WriteFailed => "write failed",
             Trouble::OutOfMemory => "out of memory",
-            Trouble::TooLong(_) => "file too long: ",
-        }
-    }
-
-    fn tail(self) -> &'static str
-        ensures { result.now ≡ tail_of self }
-    {
-        match self {
-            Trouble::ScriptRefused(_) => ": 2 unknown\n",
-            _ => "\n",
         }
     }
 }
 
-fn name_of<'a>(place: Place, names: Option<Names<'a>>) -> &'a str
-    ensures { result.now ≡ name_at place (option_map names_given names.entry) }
+// What is told of an image that is refused; of a page, its number follows.
+fn image_refused(fault: ImageFault) -> &'static str
+    ensures { result.now ≡ image_refusal fault }
 {
-    match names {
-        None => "",
-        Some(names) => match place {
-            Place::Image => names.image,
-            Place::Script => names.script,
-        },
+    match fault {
+        ImageFault::NotToml => "image refused: 1 nottoml",
+        ImageFault::UnknownKey => "image refused: 2 unknownkey",
+        ImageFault::MissingKey => "image refused: 3 missingkey",
+        ImageFault::WrongType => "image refused: 4 wrongtype",
+        ImageFault::Version => "image refused: 5 version",
+        ImageFault::BaseAlign => "image refused: 6 basealign",
+        ImageFault::PageCount => "image refused: 7 pagecount",
+        ImageFault::PagePerm(_) => "image refused: 8 pageperm page ",
+        ImageFault::PageBytes(_) => "image refused: 9 pagebytes page ",
+        ImageFault::Entry => "image refused: 10 entry",
+        ImageFault::Budget => "image refused: 11 budget",
+        ImageFault::OutOfMemory => "image refused: out of memory",
     }
 }
 
-fn place_text<'a>(buffer: &'a mut Buffer, trouble: Trouble, names: Option<Names<'a>>) -> &'a str
-    ensures { result.now ≡ place_of trouble (option_map names_given names.entry) }
+// What is told of signers that are refused.
+fn signers_refused(fault: SignersFault) -> &'static str
+    ensures { result.now ≡ signers_refusal fault }
+{
+    match fault {
+        SignersFault::NotToml => "signers refused: 1 nottoml",
+        SignersFault::BadKey => "signers refused: 2 badkey",
+        SignersFault::BadDigest => "signers refused: 3 baddigest",
+        SignersFault::Repeated => "signers refused: 4 repeated",
+        SignersFault::OutOfMemory => "signers refused: out of memory",
+    }
+}
+
+// The page that a refusal names.
+fn page_of(fault: ImageFault) -> Option<Page>
+    ensures { result ≡ the_page fault }
+{
+    match fault {
+        ImageFault::PagePerm(page) => Some(page),
+        ImageFault::PageBytes(page) => Some(page),
+        _ => None,
+    }
+}
+
+fn name_of_run<'a>(place: Place, names: Names<'a>) -> &'a str
+    ensures { result.now ≡ name_at place (Some (command_given (Command.Run names.entry))) }
+{
+    match place {
+        Place::Image => names.image,
+        Place::Signers => names.signers,
+        Place::Script => names.script,
+    }
+}
+
+fn name_of<'a>(place: Place, command: Option<Command<'a>>) -> &'a str
+    ensures { result.now ≡ name_at place (option_map command_given command.entry) }
+{
+    match command {
+        None => "",
+        Some(Command::Run(names)) => name_of_run(place, names),
+        Some(Command::Measure(image)) => image,
+    }
+}
+
+fn place_text<'a>(buffer: &'a mut Buffer, trouble: Trouble, command: Option<Command<'a>>) -> &'a str
+    ensures { result.now ≡ place_of trouble (option_map command_given command.entry) }
 {
     match trouble {
-        Trouble::ScriptRefused(line) => buffer.format(line),
-        Trouble::ReadFailed(place) => name_of(place, names),
-        Trouble::TooLong(place) => name_of(place, names),
+        Trouble::ScriptRefused(line, _) => buffer.format(line),
+        Trouble::ImageRefused(fault) => match page_of(fault) {
+            Some(page) => buffer.format(page.0),
+            None => "",
+        },
+        Trouble::ReadFailed(place) => name_of(place, command),
+        Trouble::TooLong(place) => name_of(place, command),
         _ => "",
+    }
+}
+
+// Why a line of a script is refused, after its number.
+fn write_reason<E: Sink>(err: &mut E, why: Kind) -> Result<(), SinkFault>
+    ensures ok { OnOk result (E.taken err.new ≡ with_more (E.taken err.old) (script_refusal why)) }
+    ensures err { OnErr result (TakesFront (E.taken err.old) (E.taken err.new) (script_refusal why)) }
+    ensures cause { HasCause (E.faults err.old) (E.faults err.new) Failed result }
+{
+    let mut buffer = Buffer::new();
+    let number = buffer.format(why.number());
+    if let Err(fault) = write_three(err, b": ", number.as_bytes(), b" ") {
+        return Err(fault);
+    }
+    if let Err(fault) = write_two(err, why.word().as_bytes(), b"\n") {
+        return Err(fault);
+    }
+    Ok(())
+}
+
+// The rest of a line, after the place.
+fn write_tail<E: Sink>(err: &mut E, trouble: Trouble) -> Result<(), SinkFault>
+    ensures ok { OnOk result (E.taken err.new ≡ with_more (E.taken err.old) (tail_of trouble)) }
+    ensures err { OnErr result (TakesFront (E.taken err.old) (E.taken err.new) (tail_of trouble)) }
+    ensures cause { HasCause (E.faults err.old) (E.faults err.new) Failed result }
+{
+    match trouble {
+        Trouble::ScriptRefused(_, why) => write_reason(err, why),
+        _ => err.write(b"\n"),
     }
 }
 
@@ -121,27 +257,28 @@ fn place_text<'a>(buffer: &'a mut Buffer, trouble: Trouble, names: Option<Names<
 fn write_line<E: Sink>(
     err: &mut E,
     trouble: Trouble,
-    names: Option<Names<'_>>,
+    command: Option<Command<'_>>,
 ) -> Result<(), SinkFault>
-    ensures ok { OnOk result (E.taken err.new ≡ with_more (E.taken err.old) (line_of trouble (option_map names_given names.entry))) }
-    ensures err { OnErr result (TakesFront (E.taken err.old) (E.taken err.new) (line_of trouble (option_map names_given names.entry))) }
+    ensures ok { OnOk result (E.taken err.new ≡ with_more (E.taken err.old) (line_of trouble (option_map command_given command.entry))) }
+    ensures err { OnErr result (TakesFront (E.taken err.old) (E.taken err.new) (line_of trouble (option_map command_given command.entry))) }
     ensures cause { HasCause (E.faults err.old) (E.faults err.new) Failed result }
 {
     let mut buffer = Buffer::new();
-    let place = place_text(&mut buffer, trouble, names);
-    write_three(
-        err,
-        trouble.head().as_bytes(),
-        place.as_bytes(),
-        trouble.tail().as_bytes(),
-    )
+    let place = place_text(&mut buffer, trouble, command);
+    if let Err(fault) = write_two(err, trouble.head().as_bytes(), place.as_bytes()) {
+        return Err(fault);
+    }
+    if let Err(fault) = write_tail(err, trouble) {
+        return Err(fault);
+    }
+    Ok(())
 }
 
 /// Tells a trouble by its line, as far as the sink takes it, and gives its status.
-pub fn tell<E: Sink>(err: &mut E, trouble: Trouble, names: Option<Names<'_>>) -> u8
-    ensures line { Told (E.taken err.old) (E.taken err.new) (E.faults err.old) (E.faults err.new) (line_of trouble (option_map names_given names.entry)) }
+pub fn tell<E: Sink>(err: &mut E, trouble: Trouble, command: Option<Command<'_>>) -> u8
+    ensures line { Told (E.taken err.old) (E.taken err.new) (E.faults err.old) (E.faults err.new) (line_of trouble (option_map command_given command.entry)) }
     ensures status { result ≡ status_of trouble }
 {
-    let _ = write_line(err, trouble, names);
+    let _ = write_line(err, trouble, command);
     trouble.status()
 }
