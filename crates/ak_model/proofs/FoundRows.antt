@@ -25,7 +25,7 @@ use Rattle.ak_model.proofs.FlatRows.{shown_at}
 use Rattle.ak_model.proofs.SoundRows.{journal_of}
 
 -- the journal of a row without outputs, that stops for this cause and blames this move
-abbrev stops : Row → List Event → StopCause → ℕ → Journal
+abbrev pub stops : Row → List Event → StopCause → ℕ → Journal
 stops row events cause blamed = journal_of row [] events (Some (record { cause = cause; blame = blamed }))
 
 -- ---- ELDB
@@ -49,13 +49,13 @@ unblocked_walk = refl
 -- ---- Losses of a page of the program
 
 -- nine moves serve the first miss
-abbrev served : Row
+abbrev pub served : Row
 served =
     (eenter 0 0, Ok) ∷ (run 0 1000, pf) ∷ (eenter 0 0, Ok) ∷ (run 0 1000, ex (Exit.Ask 0 0))
     ∷ (eldu 8 0 0 1 0, Ok) ∷ (setpte 0 8 pxad, Ok) ∷ (eenter 0 0, Ok) ∷ (run 0 1000, ex Exit.Ready) ∷ (eresume 0, Ok) ∷ []
 
 -- the enclave is entered after the fault, and stops
-abbrev stopping : Row
+abbrev pub stopping : Row
 stopping = (eenter 0 0, Ok) ∷ (run 0 1000, ex Exit.Stopped) ∷ []
 
 -- lost, found and lost again: the last loss before the fault is blamed
@@ -99,11 +99,11 @@ lost_after_stop = record { stopped = (page 0, Exec, refl) }
 -- ---- An asked cluster that is not there
 
 -- the program misses, and the cluster is asked for
-abbrev asked : Row
+abbrev pub asked : Row
 asked = (eenter 0 0, Ok) ∷ (run 0 1000, pf) ∷ (eenter 0 0, Ok) ∷ (run 0 1000, ex (Exit.Ask 0 0)) ∷ []
 
 -- fetched, and lost after the kernel came back: the loss is blamed, and not the entering
-unfoldable lost_back : Journal
+unfoldable pub lost_back : Journal
 lost_back = stops (asked ++ (eldu 8 0 0 1 0, Ok) ∷ (setpte 0 8 pxad, Ok) ∷ (eenter 0 0, Ok) ∷ (setpte 0 0 none, Ok) ∷ (run 0 10, pf) ∷ stopping)
     (Miss 0 0 ∷ []) (FetchNotHonoured (page 0) Exec) 8
 
@@ -129,7 +129,7 @@ unfolding lost_before
 lost_before_stop = record { stopped = refl }
 
 -- found and lost after the fault of the probe: the entering is blamed
-unfoldable fetched_late : Journal
+unfoldable pub fetched_late : Journal
 fetched_late = stops (asked ++ (eenter 0 0, Ok) ∷ (run 0 10, pf) ∷ (eldu 8 0 0 1 0, Ok) ∷ (setpte 0 8 pxad, Ok) ∷ (setpte 0 0 none, Ok) ∷ stopping)
     (Miss 0 0 ∷ []) (FetchNotHonoured (page 0) Exec) 5
 
@@ -142,7 +142,7 @@ unfolding fetched_late
 fetched_late_stop = record { stopped = refl }
 
 -- two pages are fetched, and the first is probed
-abbrev probed : Row
+abbrev pub probed : Row
 probed =
     asked ++ (eldu 8 0 0 1 0, Ok) ∷ (eldu 9 1 1 1 1, Ok) ∷ (setpte 0 8 pxad, Ok) ∷ (setpte 1 9 pwad, Ok) ∷ (eenter 0 0, Ok) ∷ (run 0 2, ex Exit.Still) ∷ []
 
@@ -174,7 +174,7 @@ lost_past_probe_stop = record { stopped = (page 0, Exec, refl) }
 -- ---- Pages of the runtime
 
 -- STATE is taken away and put back: the runtime finds its own fault
-unfoldable state_lost : Journal
+unfoldable pub state_lost : Journal
 state_lost = stops ((setpte 5 6 none, Ok) ∷ (eenter 0 0, Ok) ∷ (run 0 1, pf) ∷ (setpte 5 6 pwad, Ok) ∷ stopping) [] (RuntimeUnmapped (page 5) Write) 1
 
 state_lost_answers : AnswersAreTraced image_a state_lost
@@ -191,7 +191,7 @@ abbrev area_moves : Row
 area_moves =
     (eenter 0 0, Ok) ∷ (run 0 10, pf) ∷ (eenter 0 0, Ok) ∷ (eblock 3, Ok) ∷ (run 0 1, pf) ∷ (Etrack, Ok) ∷ (ewb 3 1 1, sealed 1) ∷ (eldu 3 1 2 1 1, Ok) ∷ stopping
 
-unfoldable area_blocked : Journal
+unfoldable pub area_blocked : Journal
 area_blocked = stops (area_moves ++ (eresume 0, Ok) ∷ (run 0 1, ex Exit.Stopped) ∷ (eresume 0, Ok) ∷ (run 0 1, ex Exit.Stopped) ∷ (eresume 0, Gp) ∷ [])
     (Miss 0 0 ∷ []) (RuntimeUnmapped (page 2) Write) 4
 
@@ -207,7 +207,7 @@ two_guards : (ended_at image_a (stops area_moves (Miss 0 0 ∷ []) (RuntimeUnmap
 two_guards = refl
 
 -- the second area is blocked after an entering at two saved contexts: the third fault is the end
-unfoldable area_stuck : Journal
+unfoldable pub area_stuck : Journal
 area_stuck = stops ((eenter 0 0, Ok) ∷ (run 0 10, pf) ∷ (eenter 0 0, Ok) ∷ (interrupt 0, Ok) ∷ (eenter 0 0, Ok) ∷ (eblock 4, Ok) ∷ (run 0 1, pf) ∷ (eenter 0 0, Gp) ∷ (eresume 0, Pending) ∷ [])
     (Miss 0 0 ∷ []) (Stuck (page 3) Write) 6
 

@@ -89,3 +89,12 @@ pub mod ClusterSizes
 pub mod MissRows
 mod WalkRows
 pub mod SoundMisses
+mod AnswerRows
+mod StateRows
+mod StopRows
+mod DriveRows
+mod MemoryRows
+mod RuleRows
+mod UnsoundRows
+mod OrderRows
+mod LayoutRows

@@ -30,7 +30,7 @@ pub fn refusals_change_nothing()
         → is_done a ≡ false → control_after layout past control m a ≡ control }
 {}
 
-/// A page is in a frame, or sealed, exactly where its place says so, and a sealed place names a handle that was given and not
+/// A page is in a frame exactly where its place says so, and a sealed place names a handle of that page, which was given and not
 /// discarded; a slot's handle that is not discarded is its page's newest copy, and no handle stands in two slots.
 pub fn one_copy()
     ensures framed { (layout : Layout.Layout) (tape : List Event) (moves : List Move) (p f : ℕ)
