@@ -1,10 +1,9 @@
 -- What streams gain and sources lose, piece by piece.
 use Rattle.std.proofs.Common.{◌≡◌, ℕ, ◌+◌, ◌-◌, ◌≤◌, List, ◌++◌, length, take, drop, arith, length-append, length-drop, sym, ap, subst, ◌∙◌, Option}
-use Rattle.std.proofs.lemmas.List.{take-append-drop, take_rest, length-take-le}
+use Rattle.std.proofs.lemmas.List.{take_rest, length-take-le}
 use Rattle.std.proofs.Math.Seq.{take-add}
 use Rattle.std.proofs.KnownBytes.{Appends-trans}
 use Rattle.std.specs.Io.KnownBytes.{Appends}
-use Rattle.ak_outside.specs.Streams.{AppendsFront}
 
 -- what was written so far, and some of the rest
 pub Appends-more : (first mid last : Option (List ℕ)) (piece : List ℕ) (written count : ℕ) → Appends first mid (take written piece) →
@@ -22,10 +21,9 @@ written_more piece written count within most =
     ap length (take_rest piece written) ∙ length-drop written piece in
     omega arith
 
--- a front by its length
-pub AppendsFront-take : (first last : Option (List ℕ)) (piece : List ℕ) (count : ℕ) → Appends first last (take count piece) → AppendsFront first last piece
-AppendsFront-take first last piece count added =
-    record { front = take count piece; rest = drop count piece; whole = take-append-drop count piece; added = added }
+-- the bytes before, and as many as stay within the limit
+pub within_limit : (bytes chunk : List ℕ) (count limit : ℕ) → count ≤ length chunk → length bytes + count ≤ limit → length (bytes ++ take count chunk) ≤ limit
+within_limit bytes chunk count limit most within = omega (arith, length-append bytes (take count chunk), length-take-le count chunk most)
 
 -- the bytes before, and as many as go one past the limit
 pub one_past : (bytes chunk : List ℕ) (count limit : ℕ) → count ≤ length chunk → length bytes + count ≡ limit + 1 → length (bytes ++ take count chunk) ≡ limit + 1

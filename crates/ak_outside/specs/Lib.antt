@@ -3,6 +3,7 @@ pub mod Causes
 pub mod MemFiles
 pub mod MemSink
 pub mod Reads
+pub mod RealFiles
 pub mod RealSink
 pub mod Streams
 pub mod Taken

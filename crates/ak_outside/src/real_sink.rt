@@ -1,6 +1,6 @@
 // A stream of the system: the edge where nothing is known of what arrives.
-ghost use Rattle.std.specs.Prelude.{◌≡◌, OnOk, OnErr, MatchResult};
-ghost use Rattle.std.specs.Io.KnownBytes.{Appends};
+ghost use Rattle.std.specs.Prelude.{◌≡◌, ◌<◌, ◌≤◌, length, IfOk, OnOk, OnErr, MatchResult};
+ghost use Rattle.std.specs.Io.KnownBytes.{Appends, WriteAppends};
 ghost use Rattle.ak_outside.specs.Causes.{HasCause, one_more};
 ghost use Rattle.ak_outside.specs.Streams.{AppendsFront};
 
@@ -41,27 +41,41 @@ impl<W: Write> Sink for RealSink<W> {
         ensures arrives { OnOk result (Appends (W.contents (stream_of self.old)) (W.contents (stream_of self.new)) piece.now) }
         ensures arrives_in_part { OnErr result (AppendsFront (W.contents (stream_of self.old)) (W.contents (stream_of self.new)) piece.now) }
     {
-        match write_whole(&mut self.stream, piece) {
-            Ok(()) => Ok(()),
-            Err(fault) => {
-                self.faults = self.faults.saturating_add(1);
-                Err(fault)
-            }
-        }
+        write_whole(&mut self.stream, &mut self.faults, piece)
     }
 }
 
-/// Writes the whole piece, in as many writes as the stream needs. A write that takes nothing is a fault.
-fn write_whole<W: Write>(stream: &mut W, piece: &[u8]) -> Result<(), SinkFault>
+/// Writes the whole piece, in as many writes as the stream needs.
+fn write_whole<W: Write>(stream: &mut W, faults: &mut u64, piece: &[u8]) -> Result<(), SinkFault>
     ensures ok { OnOk result (Appends (W.contents stream.old) (W.contents stream.new) piece.now) }
     ensures err { OnErr result (AppendsFront (W.contents stream.old) (W.contents stream.new) piece.now) }
+    ensures count { MatchResult result (λ _. faults.new ≡ faults.old) (λ _. faults.new ≡ one_more faults.old) }
+    ensures cause { HasCause faults.old faults.new SinkFault.Failed result }
 {
     let mut written = 0;
     while written < piece.len() {
-        match stream.write(&piece[written..]) {
-            Ok(count) if count > 0 => written += count,
-            _ => return Err(SinkFault::Failed),
+        match write_some(stream, faults, &piece[written..]) {
+            Ok(count) => written += count,
+            Err(fault) => return Err(fault),
         }
     }
     Ok(())
+}
+
+/// One write of a piece that is not empty. One that fails or takes nothing is a fault, and raises the count.
+fn write_some<W: Write>(stream: &mut W, faults: &mut u64, piece: &[u8]) -> Result<usize, SinkFault>
+    requires { 0 < length piece.now }
+    ensures some { IfOk result (λ count. 0 < count) }
+    ensures bound { IfOk result (λ count. count ≤ length piece.now) }
+    ensures later { faults.old ≤ faults.new }
+    ensures bytes { WriteAppends (W.contents stream.old) (W.contents stream.new) result piece.now }
+    ensures count { MatchResult result (λ _. faults.new ≡ faults.old) (λ _. faults.new ≡ one_more faults.old) }
+{
+    match stream.write(piece) {
+        Ok(count) if count > 0 => Ok(count),
+        _ => {
+            *faults = faults.saturating_add(1);
+            Err(SinkFault::Failed)
+        }
+    }
 }

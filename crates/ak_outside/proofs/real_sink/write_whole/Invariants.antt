@@ -1,4 +1,4 @@
-use Rattle.std.proofs.Common.{◌≤◌, ◌-◌, length, take}
+use Rattle.std.proofs.Common.{◌≡◌, ◌≤◌, ◌-◌, length, take}
 use Rattle.std.specs.Io.KnownBytes.{Appends}
 use Rattle.ak_outside.proofs.real_sink.write_whole.Given as goal
 
@@ -6,6 +6,7 @@ abbrev pub invariant-loop-written : goal.invariant-loop-written
 invariant-loop-written g l = record {
   within : l.written ≤ length l.piece;
   added : Appends (g.W.Write.contents l.initial.stream) (g.W.Write.contents l.stream) (take l.written l.piece);
+  same : l.faults ≡ l.initial.faults;
 }
 
 abbrev pub decreases-loop-written : goal.decreases-loop-written
