@@ -43,6 +43,8 @@ fn numbers_and_pages(rt: HostRuntime) -> Result<(), Fail> {
         ("1", "140737488322560", "0", "1", ONE, None),
         ("2", "4096", "0", "1", ONE, Some(ImageFault::Version)),
         ("-1", "0", "0", "1", ONE, Some(ImageFault::Version)),
+        ("1.0", "4096", "0", "1", ONE, Some(ImageFault::WrongType)),
+        ("'2'", "0", "0", "1", ONE, Some(ImageFault::WrongType)),
         (
             "1",
             "140737488326656",
@@ -60,6 +62,17 @@ fn numbers_and_pages(rt: HostRuntime) -> Result<(), Fail> {
             Some(ImageFault::BaseAlign),
         ),
         ("1", "-32768", "0", "1", ONE, Some(ImageFault::BaseAlign)),
+        (
+            "1",
+            "0x10001000",
+            "0",
+            "1",
+            ONE,
+            Some(ImageFault::BaseAlign),
+        ),
+        // Two pages and six more have a size of 32768, seven and six one of 65536.
+        ("1", "32768", "0", "2", TWO, None),
+        ("1", "32768", "0", "6", SEVEN, Some(ImageFault::BaseAlign)),
         (
             "1",
             "9223372036854775808",
@@ -104,6 +117,8 @@ fn numbers_and_pages(rt: HostRuntime) -> Result<(), Fail> {
         ("1", "0", "-1", "1", ONE, Some(ImageFault::Entry)),
         ("1", "0", "4096", "0", ONE, Some(ImageFault::Entry)),
         ("1", "0", "8191", "2", TWO, None),
+        ("1", "0", "28671", "6", SEVEN, None),
+        ("1", "0", "28672", "6", SEVEN, Some(ImageFault::Entry)),
         ("1", "0", "0", "1", TWO, Some(ImageFault::Budget)),
         ("1", "0", "0", "513", ONE, Some(ImageFault::Budget)),
         ("1", "0", "0", "-1", ONE, Some(ImageFault::Budget)),
@@ -128,6 +143,7 @@ fn documents(rt: HostRuntime) -> Result<(), Fail> {
             None,
         ),
         ("page = {", Some(ImageFault::NotToml)),
+        ("x = 1\npage = {", Some(ImageFault::NotToml)),
         ("version = 1", Some(ImageFault::NotToml)),
         ("x = 1", Some(ImageFault::UnknownKey)),
         ("page = [1, {x = 1}]", Some(ImageFault::UnknownKey)),
@@ -139,6 +155,9 @@ fn documents(rt: HostRuntime) -> Result<(), Fail> {
         ),
         ("page = 1", Some(ImageFault::WrongType)),
         ("page = [1]", Some(ImageFault::WrongType)),
+        ("page = [[]]", Some(ImageFault::WrongType)),
+        // The keys that follow are those of the page.
+        ("[[page]]", Some(ImageFault::UnknownKey)),
         (
             "page = [{bytes = '', cluster = 1, perms = 'w'}]",
             Some(ImageFault::WrongType),
@@ -156,11 +175,13 @@ fn documents(rt: HostRuntime) -> Result<(), Fail> {
     Ok(())
 }
 
-/// The document of an image with so many pages of one byte, each in a cluster of its own.
-fn many_pages(alloc: Global, count: u32) -> Result<String, AllocError> {
+/// The document of an image with so many pages of one byte and these permissions, each in a cluster of its own.
+fn many_pages(alloc: Global, count: u32, perms: &str) -> Result<String, AllocError> {
     let mut text = document(alloc, "1", "0x10000000", "0", "4", "")?;
     for page in 0..count {
-        text.push_str("[[page]]\nperms = \"rw\"\nbytes = \"7f\"\ncluster = \"")?;
+        text.push_str("[[page]]\nperms = \"")?;
+        text.push_str(perms)?;
+        text.push_str("\"\nbytes = \"7f\"\ncluster = \"")?;
         let name = format!(in alloc; "{page}\"\n")?;
         text.push_str(name.as_str())?;
     }
@@ -170,10 +191,52 @@ fn many_pages(alloc: Global, count: u32) -> Result<String, AllocError> {
 #[test]
 fn counts(rt: HostRuntime) -> Result<(), Fail> {
     let alloc = rt.alloc();
-    for (count, wanted) in [(512, None), (513, Some(ImageFault::PageCount))] {
-        let text = many_pages(alloc, count)?;
+    for (count, perms, wanted) in [
+        (512, "rw", None),
+        (512, "w", Some(ImageFault::PagePerm(Page(0)))),
+        (513, "w", Some(ImageFault::PageCount)),
+    ] {
+        let text = many_pages(alloc, count, perms)?;
         let fault = Image::read(alloc, text.as_bytes()).err();
         assert_eq!(rt; fault, wanted, "{count} pages");
+    }
+    Ok(())
+}
+
+/// The document of an image of one page with so many digits and then these.
+fn one_page(alloc: Global, perms: &str, digits: u32, more: &str) -> Result<String, AllocError> {
+    let mut text = document(alloc, "1", "0", "0", "1", "[[page]]\ncluster = ''")?;
+    text.push_str("perms = '")?;
+    text.push_str(perms)?;
+    text.push_str("'\nbytes = '")?;
+    for _ in 0..digits {
+        text.push_str("e")?;
+    }
+    text.push_str(more)?;
+    text.push_str("'\n")?;
+    Ok(text)
+}
+
+#[test]
+fn texts_of_a_page(rt: HostRuntime) -> Result<(), Fail> {
+    let alloc = rt.alloc();
+    for (perms, digits, more, wanted) in [
+        ("rx", 8192, "", None),
+        ("rx", 8193, "", Some(ImageFault::PageBytes(Page(0)))),
+        ("rx", 8192, "00", Some(ImageFault::PageBytes(Page(0)))),
+        ("rw", 4, "AfF0", None),
+        ("rw", 2, " 00", Some(ImageFault::PageBytes(Page(0)))),
+        ("rw", 0, "0x00", Some(ImageFault::PageBytes(Page(0)))),
+        ("rw", 0, ":0", Some(ImageFault::PageBytes(Page(0)))),
+        ("rw", 0, "G0", Some(ImageFault::PageBytes(Page(0)))),
+        ("rwx", 0, "", Some(ImageFault::PagePerm(Page(0)))),
+        ("wx", 1, "", Some(ImageFault::PagePerm(Page(0)))),
+        ("R", 0, "", Some(ImageFault::PagePerm(Page(0)))),
+        ("r ", 0, "", Some(ImageFault::PagePerm(Page(0)))),
+    ] {
+        let text = one_page(alloc, perms, digits, more)?;
+        let fault = Image::read(alloc, text.as_bytes()).err();
+        assert_eq!(rt; fault, wanted, "{perms}, {digits} digits and {more}");
     }
     Ok(())
 }

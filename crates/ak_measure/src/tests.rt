@@ -49,66 +49,49 @@ fn fault_of(alloc: Global, bytes: &[u8]) -> Option<SignersFault> {
 
 #[test]
 fn refused(rt: HostRuntime) {
-    let alloc = rt.alloc();
-    assert_eq!(rt; fault_of(alloc, b"lab = ["), Some(SignersFault::NotToml));
-    assert_eq!(rt;
-        fault_of(alloc, b"lab = []\nlab = []\n"),
-        Some(SignersFault::NotToml)
-    );
-    assert_eq!(rt; fault_of(alloc, b"# \xff\n"), Some(SignersFault::NotToml));
-    assert_eq!(rt; fault_of(alloc, b"lab = ''\n"), Some(SignersFault::BadKey));
-    assert_eq!(rt; fault_of(alloc, b"lab = [1]\n"), Some(SignersFault::BadKey));
-    assert_eq!(rt; fault_of(alloc, b"[lab]\n"), Some(SignersFault::BadKey));
-    assert_eq!(rt;
-        fault_of(alloc, b"lab = ['']\n"),
-        Some(SignersFault::BadDigest)
-    );
-    assert_eq!(rt;
-        fault_of(
-            alloc,
-            b"lab = ['000000000000000000000000000000000000000000000000000000000000000g']\n"
+    let cases: [(&[u8], SignersFault); 20] = [
+        (b"lab = [", SignersFault::NotToml),
+        (b"lab = []\nlab = []\n", SignersFault::NotToml),
+        (b"lab = []\n\"l\\u0061b\" = []\n", SignersFault::NotToml),
+        (b"# \xff\n", SignersFault::NotToml),
+        (b"lab = ''\n", SignersFault::BadKey),
+        (b"lab = 3\n", SignersFault::BadKey),
+        (b"lab = [1]\n", SignersFault::BadKey),
+        (b"lab = [[]]\n", SignersFault::BadKey),
+        (b"lab = {}\n", SignersFault::BadKey),
+        (b"[lab]\n", SignersFault::BadKey),
+        (b"[[lab]]\n", SignersFault::BadKey),
+        (b"lab.other = []\n", SignersFault::BadKey),
+        (b"lab = ['']\n", SignersFault::BadDigest),
+        (
+            b"lab = ['000000000000000000000000000000000000000000000000000000000000000g']\n",
+            SignersFault::BadDigest,
         ),
-        Some(SignersFault::BadDigest)
-    );
-    assert_eq!(rt;
-        fault_of(
-            alloc,
-            b"lab = ['00000000000000000000000000000000000000000000000000000000000000000']\n"
+        (
+            b"lab = ['00000000000000000000000000000000000000000000000000000000000000']\n",
+            SignersFault::BadDigest,
         ),
-        Some(SignersFault::BadDigest)
-    );
-    assert_eq!(rt;
-        fault_of(
-            alloc,
+        (
+            b"lab = ['00000000000000000000000000000000000000000000000000000000000000000']\n",
+            SignersFault::BadDigest,
+        ),
+        (
             b"lab = ['abababababababababababababababababababababababababababababababab', \
-            'ABABABABABABABABABABABABABABABABABABABABABABABABABABABABABABABAB']\n"
+            'ABABABABABABABABABABABABABABABABABABABABABABABABABABABABABABABAB']\n",
+            SignersFault::Repeated,
         ),
-        Some(SignersFault::Repeated)
-    );
-}
-
-#[test]
-fn refused_for_the_first_reason(rt: HostRuntime) {
-    let alloc = rt.alloc();
-    // Not TOML, and no array of strings.
-    assert_eq!(rt;
-        fault_of(alloc, b"a = 1\nb = [\n"),
-        Some(SignersFault::NotToml)
-    );
-    // A string that is no digest, and later a value that is no array of strings.
-    assert_eq!(rt;
-        fault_of(alloc, b"a = ['']\nb = 1\n"),
-        Some(SignersFault::BadKey)
-    );
-    // A digest twice, and later a string that is no digest.
-    assert_eq!(rt;
-        fault_of(
-            alloc,
+        // Two at once: the one that comes first in the order, wherever it stands.
+        (b"a = 1\nb = [\n", SignersFault::NotToml),
+        (b"a = ['']\nb = 1\n", SignersFault::BadKey),
+        (
             b"a = ['0000000000000000000000000000000000000000000000000000000000000000', \
-            '0000000000000000000000000000000000000000000000000000000000000000']\nb = ['']\n"
+            '0000000000000000000000000000000000000000000000000000000000000000']\nb = ['']\n",
+            SignersFault::BadDigest,
         ),
-        Some(SignersFault::BadDigest)
-    );
+    ];
+    for (bytes, fault) in cases {
+        assert_eq!(rt; fault_of(rt.alloc(), bytes), Some(fault), "{fault:?}");
+    }
 }
 
 #[test]

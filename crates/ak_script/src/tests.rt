@@ -103,7 +103,7 @@ fn reads_moves(rt: HostRuntime) {
 
 #[test]
 fn refuses_lines(rt: HostRuntime) {
-    let cases: [(&[u8], u32, Kind); 70] = [
+    let cases: [(&[u8], u32, Kind); 72] = [
         (b"run 0 \xb1\n", 1, Kind::NotAscii),
         (b"\xffrun 0 1\n", 1, Kind::NotAscii),
         (b"\x80# no comment\n", 1, Kind::NotAscii),
@@ -181,6 +181,8 @@ fn refuses_lines(rt: HostRuntime) {
         (b"run x\n", 1, Kind::Words),
         (b"run 4 x\n", 1, Kind::Range),
         (b"setpte x 4294967296 r\n", 1, Kind::Number),
+        (b"setpte 0 4294967296 r\n", 1, Kind::Range),
+        (b"setpte 0 x r\n", 1, Kind::Number),
         // Skipped lines count.
         (
             b"\n# \xff\n\t\r\nrun 0 1\nrun 0 0\neblock 8",
