@@ -1,7 +1,7 @@
 -- What a turn of the program comes to, beside the line of a flat state that the memory shows.
-use Rattle.std.specs.Prelude.{◌≡◌, ℕ, ◌<◌, Bool, true, ◌||◌, List, ◌∷◌, ◌++◌, Option, Some, None, IsTrue, ◌==◌}
+use Rattle.std.specs.Prelude.{◌≡◌, ℕ, ◌<◌, Bool, true, false, ◌||◌, List, ◌∷◌, ◌++◌, Option, Some, None, IsTrue, ◌==◌}
 use Rattle.ak_core.specs.Layout.{Layout}
-use Rattle.ak_core.specs.Mem.{Touch}
+use Rattle.ak_core.specs.Mem.{Touch, is_writable}
 use Rattle.ak_core.specs.declared.page.Fault.{Fault}
 use Rattle.ak_core.specs.declared.registers.Regs.{Regs}
 use Rattle.ak_model.specs.Pages.{pages}
@@ -63,6 +63,10 @@ IfIncomplete Done fact = Unit {0}
 IfIncomplete (Called number argument) fact = Unit {0}
 IfIncomplete (Trapped vector) fact = fact
 IfIncomplete (Faulted fault) fact = fact
+
+-- a page that was not touched for writing has the bytes that it had
+abbrev pub KeepsUnwritten : List Touch → (ℕ → List ℕ) → (ℕ → List ℕ) → Type 0
+KeepsUnwritten granted old new = (p : ℕ) → is_writable granted p ≡ false → new p ≡ old p
 
 -- ---- Plans that ask nothing of memory
 

@@ -3,7 +3,7 @@ ghost use Rattle.std.specs.Prelude.{◌≡◌, ◌<◌, ◌≤◌, ◌+◌, ◌^
 ghost use Rattle.ak_core.specs.declared.registers.Mode;
 ghost use Rattle.ak_model.specs.Flat.{Flat, line};
 ghost use Rattle.ak_model.specs.Instructions.{plan, HasRegisters};
-ghost use Rattle.ak_exec.specs.Turns.{Shows, DoesLine, IfIncomplete, IsVector, refused_by};
+ghost use Rattle.ak_exec.specs.Turns.{Shows, DoesLine, IfIncomplete, IsVector, KeepsUnwritten, refused_by};
 ghost use Rattle.ak_exec.specs.Carried.{CarriesOut};
 
 use crate::Turn;
@@ -25,6 +25,7 @@ fn perform<M: Mem>(layout: &Layout, regs: &mut Regs, mem: &mut M, instr: Instr, 
     ensures refused { M.refused mem.new ≡ refused_by result }
     ensures same_registers { IfIncomplete result (regs.new ≡ regs.old) }
     ensures same_bytes { IfIncomplete result (M.bytes mem.new ≡ M.bytes mem.old) }
+    ensures unwritten { KeepsUnwritten (M.granted mem.new) (M.bytes mem.old) (M.bytes mem.new) }
     ensures carried { CarriesOut layout.now (plan instr (record regs.old { rip = regs.old.rip + size })) result regs.new
         (M.holds mem.new) (M.bytes mem.old) (M.bytes mem.new) (M.granted mem.old) (M.granted mem.new) }
 {
@@ -77,6 +78,7 @@ pub fn exec<M: Mem>(layout: &Layout, regs: &mut Regs, mem: &mut M) -> Turn
     ensures refused { M.refused mem.new ≡ refused_by result }
     ensures same_registers { IfIncomplete result (regs.new ≡ regs.old) }
     ensures same_bytes { IfIncomplete result (M.bytes mem.new ≡ M.bytes mem.old) }
+    ensures unwritten { KeepsUnwritten (M.granted mem.new) (M.bytes mem.old) (M.bytes mem.new) }
     ensures line { (flat : Flat) → flat.regs ≡ regs.old → Shows layout.now (M.holds mem.old) (M.bytes mem.old) flat →
         DoesLine layout.now (line layout.now flat) result regs.new (M.holds mem.new) (M.bytes mem.new) (M.granted mem.new) }
 {

@@ -5,7 +5,7 @@ ghost use Rattle.ak_core.specs.Mem.{Touches, touch, is_touched, is_writable};
 ghost use Rattle.ak_core.specs.declared.page.Kind.TheVariants.{Read, Write};
 ghost use Rattle.ak_model.specs.Pages.{pages};
 ghost use Rattle.ak_model.specs.Flat.{Flat, is_program, bytes_at, overwrite};
-ghost use Rattle.ak_exec.specs.Turns.{Shows};
+ghost use Rattle.ak_exec.specs.Turns.{KeepsUnwritten, Shows};
 ghost use Rattle.ak_exec.specs.Accessed.{IsPlace, IsReached, IsUnreached, Reaches, TouchesBoth, refused_access};
 
 use ak_core::{Fault, Kind, Layout, Mem, Page};
@@ -126,6 +126,7 @@ fn store_bytes<M: Mem>(mem: &mut M, place: u64, bytes: &[u8])
     ensures tables { M.tables mem.new ≡ M.tables mem.old }
     ensures granted { M.granted mem.new ≡ M.granted mem.old }
     ensures refused { M.refused mem.new ≡ M.refused mem.old }
+    ensures unwritten { KeepsUnwritten (M.granted mem.new) (M.bytes mem.old) (M.bytes mem.new) }
     ensures shows { (layout : Pages) (flat : Flat) → place + length bytes.now ≤ 4096 * pages layout →
         Shows layout (M.holds mem.old) (M.bytes mem.old) flat →
         Shows layout (M.holds mem.new) (M.bytes mem.new)
@@ -178,6 +179,7 @@ pub(crate) fn write<M: Mem>(
     ensures holds { M.holds mem.new ≡ M.holds mem.old }
     ensures tables { M.tables mem.new ≡ M.tables mem.old }
     ensures same { OnErr result (M.bytes mem.new ≡ M.bytes mem.old) }
+    ensures unwritten { KeepsUnwritten (M.granted mem.new) (M.bytes mem.old) (M.bytes mem.new) }
     ensures refused { M.refused mem.new ≡ refused_access result }
     ensures reached { OnOk result (Reaches layout.now address (length bytes.now) Write
         (M.granted mem.old) (M.granted mem.new)) }

@@ -1,7 +1,7 @@
 // Instructions that read or write one operand in memory, by what they ask.
 ghost use Rattle.std.specs.Prelude.{◌≡◌, ◌<◌, ◌≤◌, ◌+◌, ◌*◌, ◌/◌, None, length};
 ghost use Rattle.ak_model.specs.Instructions.{Reads, Writes, le_bytes, minus, plus, reg_of, rsp, with_reg};
-ghost use Rattle.ak_exec.specs.Turns.{IfIncomplete, IsVector, refused_by};
+ghost use Rattle.ak_exec.specs.Turns.{IfIncomplete, IsVector, KeepsUnwritten, refused_by};
 ghost use Rattle.ak_exec.specs.Carried.{CarriesOut, turn_of};
 
 use crate::Turn;
@@ -42,6 +42,7 @@ pub(crate) fn load<M: Mem>(
     ensures refused { M.refused mem.new ≡ refused_by result }
     ensures same_registers { IfIncomplete result (regs.new ≡ regs.old) }
     ensures same_bytes { IfIncomplete result (M.bytes mem.new ≡ M.bytes mem.old) }
+    ensures bytes { M.bytes mem.new ≡ M.bytes mem.old }
     ensures carried { CarriesOut layout.now (Reads address 8 (λ v. with_reg after reg v)) result regs.new
         (M.holds mem.new) (M.bytes mem.old) (M.bytes mem.new) (M.granted mem.old) (M.granted mem.new) }
 {
@@ -76,6 +77,7 @@ pub(crate) fn load_byte<M: Mem>(
     ensures refused { M.refused mem.new ≡ refused_by result }
     ensures same_registers { IfIncomplete result (regs.new ≡ regs.old) }
     ensures same_bytes { IfIncomplete result (M.bytes mem.new ≡ M.bytes mem.old) }
+    ensures bytes { M.bytes mem.new ≡ M.bytes mem.old }
     ensures carried { CarriesOut layout.now
         (Reads address 1 (λ v. with_reg after reg (reg_of after reg / 256 * 256 + v))) result regs.new
         (M.holds mem.new) (M.bytes mem.old) (M.bytes mem.new) (M.granted mem.old) (M.granted mem.new) }
@@ -110,6 +112,7 @@ pub(crate) fn return_near<M: Mem>(
     ensures refused { M.refused mem.new ≡ refused_by result }
     ensures same_registers { IfIncomplete result (regs.new ≡ regs.old) }
     ensures same_bytes { IfIncomplete result (M.bytes mem.new ≡ M.bytes mem.old) }
+    ensures bytes { M.bytes mem.new ≡ M.bytes mem.old }
     ensures carried { CarriesOut layout.now (Reads address 8 (λ v. record after { rip = v })) result regs.new
         (M.holds mem.new) (M.bytes mem.old) (M.bytes mem.new) (M.granted mem.old) (M.granted mem.new) }
 {
@@ -145,6 +148,7 @@ pub(crate) fn store<M: Mem>(
     ensures refused { M.refused mem.new ≡ refused_by result }
     ensures same_registers { IfIncomplete result (regs.new ≡ regs.old) }
     ensures same_bytes { IfIncomplete result (M.bytes mem.new ≡ M.bytes mem.old) }
+    ensures unwritten { KeepsUnwritten (M.granted mem.new) (M.bytes mem.old) (M.bytes mem.new) }
     ensures carried { CarriesOut layout.now (Writes address bytes.now after) result regs.new
         (M.holds mem.new) (M.bytes mem.old) (M.bytes mem.new) (M.granted mem.old) (M.granted mem.new) }
 {
@@ -175,6 +179,7 @@ pub(crate) fn push<M: Mem>(
     ensures refused { M.refused mem.new ≡ refused_by result }
     ensures same_registers { IfIncomplete result (regs.new ≡ regs.old) }
     ensures same_bytes { IfIncomplete result (M.bytes mem.new ≡ M.bytes mem.old) }
+    ensures unwritten { KeepsUnwritten (M.granted mem.new) (M.bytes mem.old) (M.bytes mem.new) }
     ensures carried { let top = minus (reg_of after rsp) 8 in
         CarriesOut layout.now (Writes top (le_bytes 8 number) (with_reg after rsp top)) result regs.new
         (M.holds mem.new) (M.bytes mem.old) (M.bytes mem.new) (M.granted mem.old) (M.granted mem.new) }

@@ -4,6 +4,7 @@ use lib.Seq.{paste}
 use Rattle.ak_core.specs.Mem.{with_page}
 use Rattle.ak_exec.specs.Turns.{Shows}
 use Rattle.ak_exec.proofs.Paged.{stored_more, stored_all, long_enough, shows_same}
+use Rattle.ak_exec.proofs.Unwritten.{unwritten_more}
 use Rattle.ak_exec.proofs.operands.store_bytes.Goals as goal
 
 pub loop-i-preserved : goal.loop-i-preserved
@@ -12,6 +13,8 @@ loop-i-preserved g c = record {
   tables = c.store.ensures.tables ∙ c.loop-i.invariant.tables;
   granted = c.store.ensures.granted ∙ c.loop-i.invariant.granted;
   refused = c.store.ensures.refused ∙ c.loop-i.invariant.refused;
+  unwritten = unwritten_more (g.M.Mem.granted c.args.mem.now) (g.M.Mem.bytes c.args.mem.now) (g.M.Mem.bytes c.loop-i.mem) (g.M.Mem.bytes c.store.new.self) ((c.args.place + c.loop-i.i) / 4096) _
+      (c.requires.touched c.loop-i.i c.loop-i-test.true) c.store.ensures.bytes c.loop-i.invariant.unwritten;
   shows = λ layout flat room shows.
       let p = (c.args.place + c.loop-i.i) / 4096 in
       let long = long_enough layout (g.M.Mem.holds c.args.mem.now) (g.M.Mem.bytes c.args.mem.now) flat p shows (g.M.Mem.whole c.args.mem.now p) (omega arith) (c.requires.held c.loop-i.i c.loop-i-test.true) in
