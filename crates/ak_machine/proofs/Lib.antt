@@ -12,3 +12,5 @@ pub mod Moves
 pub mod Held
 pub mod Filling
 pub mod Builds
+pub mod Notes
+pub mod Kept

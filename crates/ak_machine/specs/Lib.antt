@@ -9,3 +9,4 @@ pub mod SoundTurns
 pub mod Moves
 pub mod Turning
 pub mod Built
+pub mod Notes

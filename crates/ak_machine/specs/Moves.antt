@@ -1,5 +1,5 @@
 -- What turns, runs and moves do: they are those of the definitions, whatever comes later, and they keep the relation.
-use Rattle.std.specs.Prelude.{◌≡◌, ℕ, ◌+◌, ◌-◌, Bool, true, false, List, ◌∷◌, ◌++◌, Option, Some, None, ◌==◌, if◌then◌else◌}
+use Rattle.std.specs.Prelude.{◌≡◌, ℕ, ◌+◌, ◌-◌, ◌≤◌, Bool, true, false, List, ◌∷◌, ◌++◌, Option, Some, None, ◌==◌, if◌then◌else◌}
 use Rattle.ak_core.specs.Layout.{Layout}
 use Rattle.ak_core.specs.Journal.{with_more}
 use Rattle.ak_core.specs.declared.event.Event.{Event}
@@ -8,6 +8,7 @@ use Rattle.ak_core.specs.declared.moves.Move.{Move}
 use Rattle.ak_core.specs.declared.moves.Move.TheVariants.{Run}
 use Rattle.ak_core.specs.declared.moves.Exit.{Exit}
 use Rattle.ak_core.specs.declared.moves.Answer.{Answer}
+use Rattle.ak_model.specs.Pages.{pages}
 use Rattle.ak_model.specs.History.{History}
 use Rattle.ak_model.specs.Control.{Control}
 use Rattle.ak_model.specs.Turn.{Turn, Goes, Leaves}
@@ -50,6 +51,12 @@ runtime_note _ = RuntimeNote.Quiet
 abbrev pub note_of_move : Move → Activity → RuntimeNote
 note_of_move (Run lp n) activity = if lp.0 == 0 then runtime_note activity else RuntimeNote.Quiet
 note_of_move _ activity = RuntimeNote.Quiet
+
+-- ---- Bytes
+
+-- the pages after the program's, which are the runtime's, keep their bytes
+abbrev pub KeepsRuntime : Layout → State → State → Type 0
+KeepsRuntime layout old new = (p : ℕ) → pages layout ≤ p → new.bytes p ≡ old.bytes p
 
 -- ---- One turn
 

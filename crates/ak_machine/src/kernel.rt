@@ -2,7 +2,8 @@
 ghost use Rattle.std.specs.Prelude.{◌≡◌, ◌+◌, ◌<◌, ◌≤◌, ◌^◌, None, IsTrue};
 ghost use Rattle.ak_machine.specs.Served.{is_first_or_none, is_served};
 ghost use Rattle.ak_machine.specs.State.{state_of, layout_of};
-ghost use Rattle.ak_machine.specs.Moves.{IsMove, event_in, note_of_move};
+ghost use Rattle.ak_machine.specs.Moves.{IsMove, KeepsRuntime, event_in, note_of_move};
+ghost use Rattle.ak_machine.specs.Notes.{NoteStands};
 
 use crate::activity::Activity;
 use crate::applied::{Applied, ProgramNote, RuntimeNote};
@@ -28,6 +29,7 @@ impl Machine {
         ensures layout { layout_of self.new ≡ layout_of self.old }
         ensures moved { IsMove (layout_of self.old) (state_of self.old) (state_of self.new) (Move.SetPte p e.frame e.flags)
             result None }
+        ensures bytes { (state_of self.new).bytes ≡ (state_of self.old).bytes }
         ensures count { (state_of self.new).count ≡ (state_of self.old).count }
     {
         if p.0 as usize >= self.layout.perms().len() {
@@ -54,6 +56,7 @@ impl Machine {
         ensures layout { layout_of self.new ≡ layout_of self.old }
         ensures moved { IsMove (layout_of self.old) (state_of self.old) (state_of self.new) (Move.Eenter lp value) result
             None }
+        ensures bytes { (state_of self.new).bytes ≡ (state_of self.old).bytes }
         ensures count { (state_of self.new).count ≡ (state_of self.old).count }
     {
         if lp.0 >= self.layout.lps() {
@@ -74,6 +77,8 @@ impl Machine {
         ensures layout { layout_of self.new ≡ layout_of self.old }
         ensures moved { IsMove (layout_of self.old) (state_of self.old) (state_of self.new) (Move.Run lp turns) result.answer
             (event_in (layout_of self.old) result.program (state_of self.new).count) }
+        ensures kept { KeepsRuntime (layout_of self.old) (state_of self.old) (state_of self.new) }
+        ensures fault { NoteStands (layout_of self.old) (state_of self.new) result.program }
         ensures runtime { result.runtime ≡ note_of_move (Move.Run lp turns) (state_of self.old).activity }
         ensures completed { (state_of self.new).count ≡ (state_of self.old).count + result.completed }
         ensures few { result.completed ≤ turns }
@@ -100,9 +105,11 @@ impl Machine {
         requires room { (state_of self.old).count + 1000000 < 2 ^ 64 }
         ensures layout { layout_of self.new ≡ layout_of self.old }
 
-        // The answer is that of the definitions, and the relation is kept.
+        // The answer is that of the definitions; the relation is kept, and so are the bytes of the runtime's pages.
         ensures moved { IsMove (layout_of self.old) (state_of self.old) (state_of self.new) m.now result.answer
             (event_in (layout_of self.old) result.program (state_of self.new).count) }
+        ensures kept { KeepsRuntime (layout_of self.old) (state_of self.old) (state_of self.new) }
+        ensures fault { NoteStands (layout_of self.old) (state_of self.new) result.program }
         ensures runtime { result.runtime ≡ note_of_move m.now (state_of self.old).activity }
         ensures completed { (state_of self.new).count ≡ (state_of self.old).count + result.completed }
         ensures few { result.completed ≤ 1000000 }

@@ -109,7 +109,8 @@ impl Machine {
     }
 
     ghost use Rattle.ak_machine.specs.Controls.{is_inside};
-    ghost use Rattle.ak_machine.specs.Moves.{IsTurn, IsRun, event_in, runtime_note, is_leaving, is_still};
+    ghost use Rattle.ak_machine.specs.Moves.{IsTurn, IsRun, KeepsRuntime, event_in, runtime_note, is_leaving, is_still};
+    ghost use Rattle.ak_machine.specs.Notes.{NoteStands, is_of_fault};
     ghost use Rattle.ak_machine.specs.Turning.{QuietlyLeaves};
 
     /// A turn of the program.
@@ -120,6 +121,9 @@ impl Machine {
         ensures turn { IsTurn self.old.layout (state_of self.old) (state_of self.new) result.exit
             (event_in self.old.layout result.program self.new.count) }
         ensures calls { (result.program ≡ ProgramNote.Plain → ⊥) → result.exit ≡ None → is_leaving self.new.activity ≡ true }
+        ensures kept { KeepsRuntime self.old.layout (state_of self.old) (state_of self.new) }
+        ensures fault { NoteStands self.old.layout (state_of self.new) result.program }
+        ensures faultless { result.exit ≡ None → is_of_fault result.program ≡ false }
         ensures runtime { result.runtime ≡ RuntimeNote.Quiet }
         ensures steps { runtime_note self.new.activity ≡ RuntimeNote.Quiet }
         ensures left { is_inside self.new.activity ≡ not (is_some result.exit) }
@@ -199,6 +203,7 @@ impl Machine {
         requires entering { self.old.activity ≡ Activity.Entering stage value }
         ensures layout { self.new.layout ≡ self.old.layout }
         ensures turn { IsTurn self.old.layout (state_of self.old) (state_of self.new) result.exit None }
+        ensures bytes { (state_of self.new).bytes ≡ (state_of self.old).bytes }
         ensures quiet { result.program ≡ ProgramNote.Plain }
         ensures runtime { result.runtime ≡ runtime_note self.old.activity }
         ensures steps { runtime_note self.new.activity ≡ RuntimeNote.Quiet }
@@ -238,6 +243,7 @@ impl Machine {
         requires leaving { self.old.activity ≡ Activity.Leaving number argument }
         ensures layout { self.new.layout ≡ self.old.layout }
         ensures turn { IsTurn self.old.layout (state_of self.old) (state_of self.new) result.exit None }
+        ensures bytes { (state_of self.new).bytes ≡ (state_of self.old).bytes }
         ensures quiet { result.program ≡ ProgramNote.Plain }
         ensures runtime { result.runtime ≡ RuntimeNote.Quiet }
         ensures leaves { is_some result.exit ≡ true }
@@ -260,6 +266,9 @@ impl Machine {
             (event_in self.old.layout result.program self.new.count) }
         ensures leaves { is_leaving self.old.activity ≡ true → QuietlyLeaves result (self.old.count) (self.new.count) }
         ensures calls { (result.program ≡ ProgramNote.Plain → ⊥) → result.exit ≡ None → is_leaving self.new.activity ≡ true }
+        ensures kept { KeepsRuntime self.old.layout (state_of self.old) (state_of self.new) }
+        ensures fault { NoteStands self.old.layout (state_of self.new) result.program }
+        ensures faultless { result.exit ≡ None → is_of_fault result.program ≡ false }
         ensures runtime { result.runtime ≡ runtime_note self.old.activity }
         ensures gone { result.exit ≡ None → result.runtime ≡ RuntimeNote.Quiet }
         ensures steps { result.exit ≡ None → runtime_note self.new.activity ≡ RuntimeNote.Quiet }
@@ -284,6 +293,8 @@ impl Machine {
         ensures layout { self.new.layout ≡ self.old.layout }
         ensures run { IsRun self.old.layout (state_of self.old) (state_of self.new) result.exit
             (event_in self.old.layout result.program self.new.count) turns }
+        ensures kept { KeepsRuntime self.old.layout (state_of self.old) (state_of self.new) }
+        ensures fault { NoteStands self.old.layout (state_of self.new) result.program }
         ensures runtime { result.runtime ≡ runtime_note self.old.activity }
         ensures left { is_inside self.new.activity ≡ is_still result.exit }
         ensures grows { self.old.count ≤ self.new.count }

@@ -10,6 +10,7 @@ returns-then-lp-lps c = record {
       let m = c.args.self.now in
       let beyond : m.layout.lps ≤ c.args.lp.0 = omega (arith, c.if-lp-lps.true, c.lps.ensures) in
       enter_nowhere m.layout image past (state_of m) c.args.lp c.args.value returned shown events beyond st;
+  bytes = refl;
   count = refl;
 }
 
@@ -21,6 +22,7 @@ returns-in_default c = record {
       let there : c.args.lp.0 < m.layout.lps = omega (arith, c.if-lp-lps.false, c.lps.ensures) in
       enter_refused m.layout image past (state_of m) c.args.lp c.args.value returned shown events m.served
       (is_first m.layout c.args.lp c.requires there) (some_inside m.activity c.in_default.not-Outside) st;
+  bytes = refl;
   count = refl;
 }
 

@@ -1,13 +1,16 @@
-use Rattle.std.proofs.Common.{◌≡◌, ◌∙◌, ℕ, ◌+◌, ◌-◌, ap, subst, sym, arith}
+use Rattle.std.proofs.Common.{◌≡◌, ◌∙◌, ℕ, ◌+◌, ◌-◌, Bool, List, ap, subst, sym, arith}
 use Rattle.std.specs.Prelude.{Some, None}
 use Rattle.ak_core.specs.declared.event.Event.{Event}
 use Rattle.ak_core.specs.declared.moves.Exit.{Exit}
 use Rattle.ak_machine.specs.declared.activity.Stage.{Stage}
 use Rattle.ak_machine.specs.declared.activity.Activity.{Activity}
-use Rattle.ak_machine.specs.Memory.{tables_of, bytes_of}
+use Rattle.ak_machine.specs.Memory.{is_held, tables_of, bytes_of, length-bytes_of}
 use Rattle.ak_machine.specs.State.{State, state_of}
 use Rattle.ak_machine.specs.Faults.{fault_event}
 use Rattle.ak_machine.specs.Moves.{DoesTurn}
+use Rattle.ak_model.specs.Flat.{Next, Call}
+use Rattle.ak_exec.specs.Turns.{Shows}
+use Rattle.ak_machine.proofs.Kept.{kept_whole}
 use Rattle.ak_machine.proofs.Refused.{vector_other}
 use Rattle.ak_machine.proofs.ProgramTurns.{done, called, raised, faulted}
 use Rattle.ak_machine.proofs.machine.Machine.program_turn.Goals as goal
@@ -65,3 +68,34 @@ returns-in-Faulted-clause-turn c = λ image past returned shown events st.
     (faulted m.layout image past (state_of m) returned shown events access c.exec.new.regs (tables_of n.table n.epcm) (bytes_of n.frames.items n.epcm) n.touched.items
     m.served c.requires.running c.in-Faulted.ensures.same_registers c.in-Faulted.ensures.tables c.in-Faulted.ensures.same_bytes
     c.in-Faulted.ensures.line n.found (n.lost access c.in-Faulted.ensures.refused) st))
+
+pub returns-in-Faulted-clause-fault : goal.returns-in-Faulted-clause-fault
+returns-in-Faulted-clause-fault c = λ flat regs shows.
+    let m = c.args.self.now in
+    let n = c.exec.new.mem in
+    let H : (ℕ → Bool) → Type 0 = λ holds. Shows m.layout holds (bytes_of n.frames.items n.epcm) flat in
+    let B : (ℕ → List ℕ) → Type 0 = λ bytes. Shows m.layout (is_held m.memory.epcm) bytes flat in
+    let before : Shows m.layout (is_held m.memory.epcm) (bytes_of m.memory.frames.items m.memory.epcm) flat =
+    subst B c.in-Faulted.ensures.same_bytes (subst H c.in-Faulted.ensures.holds shows) in
+    let refuses = c.in-Faulted.ensures.line flat (regs ∙ c.in-Faulted.ensures.same_registers) before in
+    record { granted = n.touched.items; rest = refuses.rest; next = refuses.next; found = n.found; lost = n.lost c.in-Faulted.access c.in-Faulted.ensures.refused }
+
+pub returns-in-Done-clause-kept : goal.returns-in-Done-clause-kept
+returns-in-Done-clause-kept c =
+    let m = c.args.self.now in
+    let n = c.exec.new.mem in
+    kept_whole m.layout m.regs c.exec.new.regs (is_held m.memory.epcm) (is_held n.epcm) (bytes_of m.memory.frames.items m.memory.epcm) (bytes_of n.frames.items n.epcm) n.touched.items
+    Next (length-bytes_of m.memory.frames.items m.memory.epcm m.memory.whole) c.in-Done.ensures.line c.in-Done.ensures.unwritten
+
+pub returns-in-Called-clause-kept : goal.returns-in-Called-clause-kept
+returns-in-Called-clause-kept c =
+    let m = c.args.self.now in
+    let n = c.exec.new.mem in
+    kept_whole m.layout m.regs c.exec.new.regs (is_held m.memory.epcm) (is_held n.epcm) (bytes_of m.memory.frames.items m.memory.epcm) (bytes_of n.frames.items n.epcm) n.touched.items
+    (Call c.in-Called.number c.in-Called.argument) (length-bytes_of m.memory.frames.items m.memory.epcm m.memory.whole) c.in-Called.ensures.line c.in-Called.ensures.unwritten
+
+pub returns-in-Trapped-clause-kept : goal.returns-in-Trapped-clause-kept
+returns-in-Trapped-clause-kept c p beyond = ap (λ f. f p) c.in-Trapped.ensures.same_bytes
+
+pub returns-in-Faulted-clause-kept : goal.returns-in-Faulted-clause-kept
+returns-in-Faulted-clause-kept c p beyond = ap (λ f. f p) c.in-Faulted.ensures.same_bytes

@@ -50,6 +50,8 @@ returns c =
           run_move m.layout image past (state_of m) (state_of c.run_turns-ran.new.self) c.args.lp c.args.turns c.run_turns-ran.result.exit
           (event_in m.layout c.run_turns-ran.result.program c.run_turns-ran.new.self.count) returned shown events m.served first inside st
           (c.run_turns-ran.ensures.run image past returned shown events st);
+      kept = c.run_turns-ran.ensures.kept;
+      fault = c.run_turns-ran.ensures.fault;
       runtime = c.run_turns-ran.ensures.runtime ∙ sym (first_note c.args.lp c.args.turns m.activity first);
       completed = omega arith;
       few = omega arith;

@@ -1,12 +1,15 @@
-use Rattle.std.proofs.Common.{◌≡◌, ◌∙◌, ◌+◌, ap, sym, arith, subst}
+use Rattle.std.proofs.Common.{◌≡◌, ◌∙◌, ◌+◌, ◌≤◌, ap, sym, arith, subst}
 use Rattle.std.specs.Prelude.{is_some, not}
 use Rattle.ak_core.specs.Layout.{Layout}
 use Rattle.ak_core.specs.Journal.{with_more}
+use Rattle.ak_model.specs.Pages.{pages}
 use Rattle.ak_machine.specs.declared.applied.ProgramNote.{ProgramNote}
 use Rattle.ak_machine.specs.State.{state_of}
 use Rattle.ak_machine.specs.Stands.{Stands}
 use Rattle.ak_machine.specs.Moves.{DoesTurn, DoesRun, RunsSoFar, event_in}
+use Rattle.ak_machine.specs.Notes.{NoteStands, is_of_fault}
 use Rattle.ak_machine.proofs.Runs.{leaves_any, goes_on_any, note_later, still}
+use Rattle.ak_machine.proofs.Notes.{no_fault, later_stands, later_faultless}
 use Rattle.ak_machine.proofs.machine.Machine.run_turns.Goals as goal
 
 pub returns-in-Some-clause-run : goal.returns-in-Some-clause-run
@@ -23,6 +26,15 @@ returns-in-Some-clause-run c = λ image past returned shown events st.
     (leaves_any first.layout image past (state_of first) (state_of mid) (state_of new) c.turn-turned.result c.in-Some.exit c.loop-turn.program c.loop-turn._turn c.args.turns returned shown events s
     (subst P c.loop-turn.invariant.layout (c.turn-turned.ensures.turn image past s.values shown now) s.stands)
     (λ shown_note. c.turn-turned.ensures.leaves (c.loop-turn.invariant.leaving shown_note)) c.in-Some.is (omega arith))
+
+pub returns-in-Some-clause-fault : goal.returns-in-Some-clause-fault
+returns-in-Some-clause-fault c =
+    let first = c.args.self.now in
+    let new = state_of c.turn-turned.new.self in
+    let here : NoteStands first.layout new c.turn-turned.result.program =
+    subst (λ (l : Layout). NoteStands l new c.turn-turned.result.program) c.loop-turn.invariant.layout c.turn-turned.ensures.fault in
+    subst (NoteStands first.layout new) (sym c.later_note-program.ensures)
+    (later_stands first.layout new c.turn-turned.result.program c.loop-turn.program here c.loop-turn.invariant.faultless)
 
 pub loop-turn-preserved : goal.loop-turn-preserved
 loop-turn-preserved c = record {
@@ -42,6 +54,10 @@ loop-turn-preserved c = record {
   leaving = note_later c.turn-turned.result c.loop-turn.program c.later_note-program.result c.loop-turn.self.count c.turn-turned.new.self.count _
       c.later_note-program.ensures (λ shown_note. c.turn-turned.ensures.leaves (c.loop-turn.invariant.leaving shown_note)) c.in_default.is
       (λ shown_note. c.turn-turned.ensures.calls shown_note c.in_default.is);
+  faultless = ap is_of_fault c.later_note-program.ensures
+      ∙ later_faultless c.turn-turned.result.program c.loop-turn.program (c.turn-turned.ensures.faultless c.in_default.is) c.loop-turn.invariant.faultless;
+  kept = λ p beyond. let P : Layout → Type 0 = λ l. pages l ≤ p in
+      c.turn-turned.ensures.kept p (subst P (sym c.loop-turn.invariant.layout) beyond) ∙ c.loop-turn.invariant.kept p beyond;
   grows = omega arith;
   count = omega arith;
   layout = c.turn-turned.ensures.layout ∙ c.loop-turn.invariant.layout;
@@ -55,3 +71,11 @@ returns-clause-run c = λ image past returned shown events st.
     let e : c.loop-turn._turn ≡ c.args.turns = omega arith in
     still c.args.self.now.layout image past (state_of c.args.self.now) (state_of c.loop-turn.self) (event_in c.args.self.now.layout c.loop-turn.program c.loop-turn.self.count) c.args.turns returned shown events
     (rw e at (c.loop-turn.invariant.run image past returned shown events st))
+
+pub returns-clause-fault : goal.returns-clause-fault
+returns-clause-fault c = no_fault c.args.self.now.layout (state_of c.loop-turn.self) c.loop-turn.program c.loop-turn.invariant.faultless
+
+pub returns-in-Some-clause-kept : goal.returns-in-Some-clause-kept
+returns-in-Some-clause-kept c p beyond =
+    let P : Layout → Type 0 = λ l. pages l ≤ p in
+    c.turn-turned.ensures.kept p (subst P (sym c.loop-turn.invariant.layout) beyond) ∙ c.loop-turn.invariant.kept p beyond
