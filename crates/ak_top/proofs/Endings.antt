@@ -32,7 +32,7 @@ text_ends task text wanted out out' (Err _) is due w = absurd w
 
 -- a trouble before any text
 pub trouble_ends : (trouble : Trouble) (wanted : Result Task Trouble) (out out' : SinkState) → is_foreign trouble ≡ false → IsDue wanted (Err trouble) →
-    out'.taken ≡ out.taken → Ends (Err trouble) wanted out out'
+    out' ≡ out → Ends (Err trouble) wanted out out'
 trouble_ends WriteFailed wanted out out' own due still = absurd (cc)
 trouble_ends OutOfMemory wanted out out' own due still = still
 trouble_ends _ wanted out out' own (inl e) still = record { due = sym e; still = still }

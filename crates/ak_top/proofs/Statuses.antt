@@ -28,6 +28,7 @@ serves_usage files out err err' told = record {
   tells = told;
   asked = λ t. sym (append-nil files.asked);
   usage = (λ e. refl, λ e. refl);
+  unread = λ e. refl;
   read = λ e. absurd (cc);
   long = (λ e. absurd (cc), λ h. absurd (let none = h.0 in cc));
   complete = λ t files out. inl refl;
@@ -89,6 +90,7 @@ serves command files files' out out' err err' ending d tells = record {
   tells = tells;
   asked = d.asked;
   usage = (λ e. absurd (d.worded (at_usage ending e)), λ e. absurd (cc));
+  unread = λ e. absurd (cc);
   read = at_read files files' ending d.failed;
   long = (λ e. (refl, at_long files files' ending d.long e), λ h. from_long files files' ending d.long h.1);
   complete = λ t no_fault no_sink.

@@ -42,15 +42,15 @@ pub record WritesFront (wanted : Result Task Trouble) (out out' : SinkState) : T
   pub taken : TakesFront out.taken out'.taken text
   pub rose : Rose out.faults out'.faults
 
--- the trouble was due, and the sink took nothing
+-- the trouble was due, and the sink was let alone
 pub record Stops (wanted : Result Task Trouble) (trouble : Trouble) (out out' : SinkState) : Type 0 where
   pub due : wanted ≡ Err trouble
-  pub still : out'.taken ≡ out.taken
+  pub still : out' ≡ out
 
 -- how a trouble ends it: a fault of the sink, want of memory, or the first trouble in what was seen
 abbrev pub EndsAt : Trouble → Result Task Trouble → SinkState → SinkState → Type 0
 EndsAt WriteFailed wanted out out' = WritesFront wanted out out'
-EndsAt OutOfMemory wanted out out' = out'.taken ≡ out.taken
+EndsAt OutOfMemory wanted out out' = out' ≡ out
 EndsAt trouble wanted out out' = Stops wanted trouble out out'
 
 -- how it ends
@@ -74,7 +74,7 @@ pub record Does (command : Command) (files files' : FilesState) (out out' : Sink
 abbrev pub WritesText : Result (Unit {0}) Trouble → List ℕ → SinkState → SinkState → Type 0
 WritesText (Ok u) text out out' = out'.taken ≡ with_more out.taken text
 WritesText (Err WriteFailed) text out out' = TakesFront out.taken out'.taken text × Rose out.faults out'.faults
-WritesText (Err OutOfMemory) text out out' = out'.taken ≡ out.taken
+WritesText (Err OutOfMemory) text out out' = out' ≡ out
 WritesText (Err trouble) text out out' = ⊥
 
 -- what the run of inputs gave: a sound journal where the image's signer signed it, else why not; or memory ran out

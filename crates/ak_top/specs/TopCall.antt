@@ -15,9 +15,9 @@ abbrev pub status_by : {A : Type 0} → Result A Trouble → ℕ
 status_by (Ok x) = 0
 status_by (Err trouble) = status_of trouble
 
--- what the sink for errors took: nothing, or the line of the trouble, or a front of it at a fault
+-- what the sink for errors took: it was let alone, or took the line of the trouble, or a front of it at a fault
 abbrev pub Tells : Result (Unit {0}) Trouble → Option Command → SinkState → SinkState → Type 0
-Tells (Ok u) command err err' = err'.taken ≡ err.taken
+Tells (Ok u) command err err' = err' ≡ err
 Tells (Err trouble) command err err' = Told err.taken err'.taken err.faults err'.faults (line_of trouble command)
 
 -- what a call that gave this status did, with the command that its words give
@@ -33,8 +33,9 @@ pub record Serves (status : ℕ) (command : Option Command) (files files' : File
   pub tells : Tells ending command err err'
   -- the names that were asked are those that were due, in order
   pub asked : IsTrue files.tells → AsksBy ending command seen files.asked files'.asked
-  -- 2 comes exactly where the words give no command
+  -- 2 comes exactly where the words give no command, and nothing is read there
   pub usage : (status ≡ 2) ↔ (command ≡ None)
+  pub unread : command ≡ None → files' ≡ files
   -- 5 comes only where the count of the files' faults rose
   pub read : status ≡ 5 → Rose files.faults files'.faults
   -- 8 comes exactly where the last file that was asked handed over more than a file may have

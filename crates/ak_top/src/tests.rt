@@ -50,7 +50,8 @@ impl Outside {
             "tell" => self.err.fail_at(rest.parse::<u32>()?)?,
             "long" => self.files.put(rest, &long_file(alloc, 8_388_609)?)?,
             "longest" => self.files.put(rest, &long_file(alloc, 8_388_608)?)?,
-            _ => self.files.put(rest, &many_moves(alloc)?)?,
+            "most" => self.files.put(rest, &reads(alloc, 20_000)?)?,
+            _ => self.files.put(rest, &reads(alloc, 20_001)?)?,
         }
         Ok(())
     }
@@ -65,10 +66,10 @@ fn long_file(alloc: Global, length: usize) -> Result<Vec<u8>, Fail> {
     Ok(bytes)
 }
 
-/// One move too many.
-fn many_moves(alloc: Global) -> Result<Vec<u8>, Fail> {
+/// A script of so many moves.
+fn reads(alloc: Global, moves: usize) -> Result<Vec<u8>, Fail> {
     let mut bytes = Vec::new(alloc);
-    for _line in 0..20_001 {
+    for _line in 0..moves {
         bytes.extend_from_slice(b"readpte 0\n")?;
     }
     Ok(bytes)

@@ -612,6 +612,12 @@ $ run A empty s
 = 4
 ! script refused: line 2: 2 unknown
 
+$ run unknown lab s
+| readpte 0
+| eblock 8
+= 4
+! script refused: line 2: 2 unknown
+
 $ run A nolab s
 | eenter 0
 = 4
@@ -705,6 +711,13 @@ $ run A lab s
 > 1 eenter 0 0 -> ok
 > 2 run 0 1000 -> call 1 7
 > output 7
+! write failed
+
+$ run A lab s
+% most s
+% write 2
+= 6
+> autarky 1
 ! write failed
 
 $ measure A
