@@ -1,15 +1,13 @@
 #!/usr/bin/env python3
 """Times the readers of the proved program on large files: an image of 512 full pages, and documents of 8 MB of several kinds.
 
-usage: readers.py PROGRAM, with the program that `rt run` leaves in crates/autarky/out. It prints, for each file, the status,
-the seconds (the least of three calls) and the most memory that a call held.
+usage: readers.py PROGRAM, with the program that `rt run` leaves in crates/autarky/out. It prints, for each file, its bytes, the
+status, the processor's seconds (the least of three calls) and the most memory that a call held.
 """
 import os
-import resource
 import subprocess
 import sys
 import tempfile
-import time
 
 LIMIT = 8_388_608
 HEAD = 'version = 1\nbase = 268435456\nentry = 0\nbudget = 512\nsigner = "lab"\n'
@@ -59,10 +57,15 @@ def scripts():
 
 
 def call(words):
-    started = time.monotonic()
+    """Calls the program from a small process of its own, since a child's memory counts from its parent's."""
+    told = subprocess.run([sys.executable, __file__, "--call", *words], capture_output=True, text=True, check=True).stdout.split()
+    return int(told[0]), float(told[1]), int(told[2])
+
+
+def called(words):
     child = subprocess.Popen(words, stdout=subprocess.DEVNULL, stderr=subprocess.DEVNULL)
     _, status, usage = os.wait4(child.pid, 0)
-    return os.waitstatus_to_exitcode(status), time.monotonic() - started, usage.ru_maxrss // 1024
+    print(os.waitstatus_to_exitcode(status), usage.ru_utime + usage.ru_stime, usage.ru_maxrss // 1024)
 
 
 def show(kind, name, size, words):
@@ -71,8 +74,10 @@ def show(kind, name, size, words):
 
 
 def main():
+    if sys.argv[1] == "--call":
+        called(sys.argv[2:])
+        return
     program = sys.argv[1]
-    resource.setrlimit(resource.RLIMIT_STACK, (8 << 20, 8 << 20))
     with tempfile.TemporaryDirectory() as folder:
         def write(name, text):
             path = os.path.join(folder, name)
