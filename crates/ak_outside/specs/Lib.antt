@@ -1,5 +1,6 @@
 pub mod Calls
 pub mod Causes
+pub mod Counted
 pub mod MemFiles
 pub mod MemSink
 pub mod Reads

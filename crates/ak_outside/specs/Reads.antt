@@ -23,9 +23,14 @@ pub record Hands (limit handed : ℕ) (result : Result (Vec ℕ Global) FilesFau
   pub ok : IfOk result (λ v. handed ≡ length v.items)
   pub too_long : IsErrOf result TooLong ↔ (limit < handed)
 
--- the count grew by one where the read failed, and at no other answer
+-- the count grew by one where the read failed, and else stayed; one that ran out of memory may have failed before
+abbrev pub CountsRead : {T : Type 0} → ℕ → ℕ → Result T FilesFault → Type 0
+CountsRead before now (Ok v) = now ≡ before
+CountsRead before now (Err Failed) = now ≡ one_more before
+CountsRead before now (Err TooLong) = now ≡ before
+CountsRead before now (Err OutOfMemory) = (now ≡ before) ⊎ (now ≡ one_more before)
+
+-- the same, where a read that ran out of memory has not failed before
 abbrev pub CountsFailure : {T : Type 0} → ℕ → ℕ → Result T FilesFault → Type 0
-CountsFailure before now (Ok v) = now ≡ before
 CountsFailure before now (Err Failed) = now ≡ one_more before
-CountsFailure before now (Err TooLong) = now ≡ before
-CountsFailure before now (Err OutOfMemory) = now ≡ before
+CountsFailure before now _ = now ≡ before

@@ -1,14 +1,14 @@
 // Files as the program sees them.
 ghost use Rattle.std.specs.Prelude.{◌≡◌, ◌≤◌, ◌<◌, ◌^◌, ℕ, Bool, List, Option, None, Some, IsTrue, IfOk};
-ghost use Rattle.ak_outside.specs.Causes.{HasCause, Rose};
-ghost use Rattle.ak_outside.specs.Reads.{Asks, Hands, held_length};
+ghost use Rattle.ak_outside.specs.Causes.{Rose};
+ghost use Rattle.ak_outside.specs.Reads.{Asks, CountsRead, Hands, held_length};
 
 use std::alloc::Global;
 
 /// Why a read gave no bytes.
 #[derive(Clone, Copy, PartialEq, Eq, Debug)]
 pub enum FilesFault {
-    /// The name is missing, or the outside failed. The object's count of faults rose.
+    /// The name is missing, or the outside failed. The object's count of faults grew by one.
     Failed,
     /// The name holds more bytes than were asked for.
     TooLong,
@@ -45,5 +45,5 @@ pub trait Files {
         ensures handed { Hands limit (handed self.new) result }
         ensures within { IsTrue (tells self.old) → handed self.new ≤ held_length (content self.old name.now) }
         ensures missing { IsTrue (tells self.old) → content self.old name.now ≡ None → Rose (faults self.old) (faults self.new) }
-        ensures cause { HasCause (faults self.old) (faults self.new) FilesFault.Failed result };
+        ensures count { CountsRead (faults self.old) (faults self.new) result };
 }

@@ -3,6 +3,7 @@
 #![tactic(auto)]
 
 mod calls;
+mod counted;
 mod files;
 mod memory_files;
 mod memory_sink;

@@ -1,7 +1,7 @@
 // Files in memory, for tests and for programs that make their own.
 ghost use Rattle.std.specs.Prelude.{◌≡◌, ◌≤◌, ◌<◌, ◌^◌, ◌||◌, ◌==◌, ℕ, List, [], ◌∷◌, ◌++◌, None, Some, true, false, map, string_bytes, OnOk, OnErr, IfOk, if◌then◌else◌};
-ghost use Rattle.ak_outside.specs.Causes.{HasCause, Rose, one_more};
-ghost use Rattle.ak_outside.specs.Reads.{Asks, Hands, held_length};
+ghost use Rattle.ak_outside.specs.Causes.{Rose, one_more};
+ghost use Rattle.ak_outside.specs.Reads.{Asks, CountsRead, Hands, held_length};
 
 use crate::calls::Calls;
 use crate::{Files, FilesFault};
@@ -108,12 +108,12 @@ impl Files for MemFiles {
         ensures handed { Hands limit (handed_of self.new) result }
         ensures within { handed_of self.new ≤ held_length (content_of self.old name.now) }
         ensures missing { content_of self.old name.now ≡ None → Rose (faults_of self.old) (faults_of self.new) }
-        ensures cause { HasCause (faults_of self.old) (faults_of self.new) FilesFault.Failed result }
+        ensures count { CountsRead (faults_of self.old) (faults_of self.new) result }
 
         // The call is counted, which calls fail stays, and the faults grow by one at the reads that fail alone.
         ensures calls { calls_of self.new ≡ one_more (calls_of self.old) }
         ensures failing { is_failing self.new ≡ is_failing self.old }
-        ensures count { faults_of self.new ≡ (if next_fails self.old name.now then one_more (faults_of self.old) else faults_of self.old) }
+        ensures failures { faults_of self.new ≡ (if next_fails self.old name.now then one_more (faults_of self.old) else faults_of self.old) }
 
         // Each answer comes only where it is right, but for want of memory.
         ensures answers { Answers (next_fails self.old name.now) (content_of self.old name.now) limit result }

@@ -1,6 +1,6 @@
 // A sink in memory, for tests and for programs that keep what they write.
 ghost use Rattle.std.specs.Prelude.{◌≡◌, ◌+◌, ◌≤◌, ◌||◌, ◌==◌, ℕ, [], true, false, Some, length, vec_len, vec_capacity, OnOk, OnErr, IsErr, IsTrue, ◌↔◌, if◌then◌else◌};
-ghost use Rattle.ak_outside.specs.Causes.{HasCause, one_more};
+ghost use Rattle.ak_outside.specs.Causes.{Counts, one_more};
 ghost use Rattle.ak_outside.specs.Taken.{with_more, TakesFront};
 
 use crate::calls::Calls;
@@ -85,7 +85,7 @@ impl Sink for MemSink {
     fn write(&mut self, piece: &[u8]) -> Result<(), SinkFault>
         ensures ok { OnOk result (Some (taken_by self.new) ≡ with_more (Some (taken_by self.old)) piece.now) }
         ensures err { OnErr result (TakesFront (Some (taken_by self.old)) (Some (taken_by self.new)) piece.now) }
-        ensures cause { HasCause (faults_of self.old) (faults_of self.new) SinkFault.Failed result }
+        ensures count { Counts (faults_of self.old) (faults_of self.new) result }
 
         // It fails exactly there, and then takes nothing and keeps its room.
         ensures fails { IsErr result ↔ IsTrue (write_fails self.old piece.now) }
@@ -93,10 +93,9 @@ impl Sink for MemSink {
         ensures room { OnOk result (room_of self.new + length piece.now ≡ room_of self.old) }
         ensures room_stays { OnErr result (room_of self.new ≡ room_of self.old) }
 
-        // The call is counted, which calls fail stays, and the faults grow by one at the writes that fail alone.
+        // The call is counted, and which calls fail stays.
         ensures calls { calls_of self.new ≡ one_more (calls_of self.old) }
         ensures failing { is_failing self.new ≡ is_failing self.old }
-        ensures count { faults_of self.new ≡ (if write_fails self.old piece.now then one_more (faults_of self.old) else faults_of self.old) }
     {
         let is_made_to_fail = self.calls.next_fails();
         if is_made_to_fail || self.room < piece.len() {

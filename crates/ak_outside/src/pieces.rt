@@ -1,6 +1,6 @@
 // Texts that are written in several pieces.
 ghost use Rattle.std.specs.Prelude.{◌≡◌, ◌≢◌, ◌<◌, ◌≤◌, ◌+◌, ◌-◌, ◌++◌, ℕ, length, slice_index, OnOk, OnErr};
-ghost use Rattle.ak_outside.specs.Causes.{HasCause};
+ghost use Rattle.ak_outside.specs.Causes.{Counts};
 ghost use Rattle.ak_outside.specs.Taken.{with_more, TakesFront};
 
 use crate::{Sink, SinkFault};
@@ -27,7 +27,7 @@ fn end_of_line(text: &[u8], start: usize) -> usize
 pub fn write_lines<O: Sink>(out: &mut O, text: &[u8]) -> Result<(), SinkFault>
     ensures ok { OnOk result (O.taken out.new ≡ with_more (O.taken out.old) text.now) }
     ensures err { OnErr result (TakesFront (O.taken out.old) (O.taken out.new) text.now) }
-    ensures cause { HasCause (O.faults out.old) (O.faults out.new) SinkFault.Failed result }
+    ensures count { Counts (O.faults out.old) (O.faults out.new) result }
 {
     let mut start = 0;
     while start < text.len() {
@@ -44,7 +44,7 @@ pub fn write_lines<O: Sink>(out: &mut O, text: &[u8]) -> Result<(), SinkFault>
 pub fn write_two<O: Sink>(out: &mut O, first: &[u8], second: &[u8]) -> Result<(), SinkFault>
     ensures ok { OnOk result (O.taken out.new ≡ with_more (O.taken out.old) (first.now ++ second.now)) }
     ensures err { OnErr result (TakesFront (O.taken out.old) (O.taken out.new) (first.now ++ second.now)) }
-    ensures cause { HasCause (O.faults out.old) (O.faults out.new) SinkFault.Failed result }
+    ensures count { Counts (O.faults out.old) (O.faults out.new) result }
 {
     if let Err(fault) = out.write(first) {
         return Err(fault);
@@ -64,7 +64,7 @@ pub fn write_three<O: Sink>(
 ) -> Result<(), SinkFault>
     ensures ok { OnOk result (O.taken out.new ≡ with_more (O.taken out.old) (first.now ++ second.now ++ third.now)) }
     ensures err { OnErr result (TakesFront (O.taken out.old) (O.taken out.new) (first.now ++ second.now ++ third.now)) }
-    ensures cause { HasCause (O.faults out.old) (O.faults out.new) SinkFault.Failed result }
+    ensures count { Counts (O.faults out.old) (O.faults out.new) result }
 {
     if let Err(fault) = write_two(out, first, second) {
         return Err(fault);

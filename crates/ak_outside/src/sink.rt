@@ -1,12 +1,12 @@
 // A sink of bytes as the program sees it.
 ghost use Rattle.std.specs.Prelude.{◌≡◌, ℕ, List, Option, OnOk, OnErr};
-ghost use Rattle.ak_outside.specs.Causes.{HasCause};
+ghost use Rattle.ak_outside.specs.Causes.{Counts};
 ghost use Rattle.ak_outside.specs.Taken.{with_more, TakesFront};
 
 /// Why a sink did not take the whole piece.
 #[derive(Clone, Copy, PartialEq, Eq, Debug)]
 pub enum SinkFault {
-    /// The outside failed. The object's count of faults rose.
+    /// The outside failed. The object's count of faults grew by one.
     Failed,
 }
 
@@ -22,5 +22,5 @@ pub trait Sink {
     fn write(&mut self, piece: &[u8]) -> Result<(), SinkFault>
         ensures ok { OnOk result (taken self.new ≡ with_more (taken self.old) piece.now) }
         ensures err { OnErr result (TakesFront (taken self.old) (taken self.new) piece.now) }
-        ensures cause { HasCause (faults self.old) (faults self.new) SinkFault.Failed result };
+        ensures count { Counts (faults self.old) (faults self.new) result };
 }

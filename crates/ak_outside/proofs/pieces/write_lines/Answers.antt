@@ -14,5 +14,5 @@ loop-start-preserved g c = record {
       ∙ ap (λ o. with_more o (take (c.end_of_line-end.result - c.loop-start.start) (drop c.loop-start.start c.args.text.now))) c.loop-start.invariant.taken
       ∙ with_more-append _ _ _
       ∙ ap (with_more (g.O.Sink.taken c.args.out.now)) (piece c.args.text.now c.loop-start.start c.end_of_line-end.result (omega arith));
-  later = omega (arith, c.write.ensures.cause.later);
+  same = c.in_default.ensures.count ∙ c.loop-start.invariant.same;
 }

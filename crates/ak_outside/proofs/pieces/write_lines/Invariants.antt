@@ -6,7 +6,7 @@ abbrev pub invariant-loop-start : goal.invariant-loop-start
 invariant-loop-start g l = record {
   within : l.start ≤ length l.text;
   taken : g.O.Sink.taken l.out ≡ with_more (g.O.Sink.taken l.initial.out) (take l.start l.text);
-  later : g.O.Sink.faults l.initial.out ≤ g.O.Sink.faults l.out;
+  same : g.O.Sink.faults l.out ≡ g.O.Sink.faults l.initial.out;
 }
 
 abbrev pub decreases-loop-start : goal.decreases-loop-start

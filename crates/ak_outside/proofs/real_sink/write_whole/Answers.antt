@@ -8,9 +8,3 @@ loop-written-preserved g c = record {
   added = Appends-more _ _ _ c.args.piece.now c.loop-written.written c.in-Ok.count c.loop-written.invariant.added c.in-Ok.ensures.bytes;
   same = grind arith;
 }
-
-pub returns-in-Err-clause-cause : goal.returns-in-Err-clause-cause
-returns-in-Err-clause-cause g c = record {
-  later = omega (arith, c.loop-written.invariant.same, c.in-Err.ensures.later);
-  failed = λ _. omega (arith, c.loop-written.invariant.same, c.in-Err.ensures.count);
-}
