@@ -9,7 +9,7 @@ use Rattle.ak_image.specs.Image.{Image}
 use Rattle.ak_top.specs.Ends.{digest_text, IsTextOf, Writes, WritesFront, Stops, EndsAt, Ends, Does, WritesText, Runs}
 use Rattle.ak_top.specs.Inputs.{Task, Report, Digest, image_in, signers_in, inputs_in, signed, task_in, where_well, asked_in}
 use Rattle.ak_top.specs.Journals.{IsJournalOf}
-use Rattle.ak_top.specs.Reads.{IsDue, is_foreign, is_too_long, AsksFront, AsksBy, AsksUpTo, ReadsFile, Reads}
+use Rattle.ak_top.specs.Reads.{IsDue, CountsBy, is_foreign, is_too_long, AsksFront, AsksBy, AsksUpTo, ReadsFile, Reads}
 use Rattle.ak_top.specs.Report.{report_of}
 use Rattle.ak_top.specs.Seen.{FilesState, SinkState, Contents, files_of}
 use Rattle.ak_image.specs.Built.{digest_of}
@@ -18,15 +18,15 @@ use Rattle.ak_top.specs.declared.inputs.Inputs.{Inputs}
 use Rattle.ak_top.specs.declared.trouble.Place.{Place}
 use Rattle.ak_top.specs.declared.trouble.Trouble.{Trouble}
 use Rattle.ak_top.specs.declared.trouble.Trouble.TheVariants.{Usage, ReadFailed, TooLong, ImageRefused, SignersRefused, ScriptRefused, UnknownSigner, NotSigned, WriteFailed, OutOfMemory}
-use Rattle.ak_top.proofs.FileReads.{err_as, due_err, value_is, due_then}
+use Rattle.ak_top.proofs.FileReads.{due_err, value_is, due_then}
 use Rattle.ak_top.proofs.InputReads.{image_read}
 
 -- ---- How a text ends a command
 
 pub text_ends : (task : Task) (text : List ℕ) (wanted : Result Task Trouble) (out out' : SinkState) (rest : Result (Unit {0}) Trouble) →
     IsTextOf task text → wanted ≡ Ok task → WritesText rest text out out' → Ends rest wanted out out'
-text_ends task text wanted out out' (Ok u) is due w = record { task = task; due = due; text = text; is = is; taken = w }
-text_ends task text wanted out out' (Err WriteFailed) is due w = record { task = task; due = due; text = text; is = is; taken = w.0; rose = w.1 }
+text_ends task text wanted out out' (Ok u) is due w = record { task = task; due = due; text = text; is = is; taken = w.0; unfailed = w.1 }
+text_ends task text wanted out out' (Err WriteFailed) is due w = record { task = task; due = due; text = text; is = is; taken = w.0; failed = w.1 }
 text_ends task text wanted out out' (Err OutOfMemory) is due w = w
 text_ends task text wanted out out' (Err _) is due w = absurd w
 
@@ -66,6 +66,13 @@ asks_all (Err _) command seen asked asked' e = e
 
 -- ---- A command, after its files
 
+-- where no file failed, the count stayed
+still_counts : (ending : Result (Unit {0}) Trouble) (before now : ℕ) → ((place : Place) → ending ≡ Err (ReadFailed place) → ⊥) → now ≡ before → CountsBy ending before now
+still_counts (Ok u) before now read e = e
+still_counts (Err (ReadFailed place)) before now read e = absurd (read place refl)
+still_counts (Err OutOfMemory) before now read e = inl e
+still_counts (Err _) before now read e = e
+
 module _ {A : Type 0} (command : Command) (said : Contents → Result A Trouble) (next : A → Result Task Trouble) (files files' : FilesState)
     (is : (seen : Contents) → task_in (Some command) seen ≡ (said seen >>= next)) where
   -- the files ended it
@@ -76,7 +83,7 @@ module _ {A : Type 0} (command : Command) (said : Contents → Result A Trouble)
         seen = r.seen;
         sees = r.sees;
         ends = trouble_ends trouble (task_in (Some command) r.seen) out out r.own due refl;
-        failed = λ p e. r.failed p (err_as trouble (ReadFailed p) e);
+        counts = r.counts;
         worded = no_usage trouble r.own;
         long = r.long;
         asked = r.asked;
@@ -91,7 +98,7 @@ module _ {A : Type 0} (command : Command) (said : Contents → Result A Trouble)
         seen = r.seen;
         sees = r.sees;
         ends = subst (λ wanted. Ends ending wanted out out') (sym due) ends;
-        failed = λ p e. absurd (read p e);
+        counts = still_counts ending _ _ read r.counts;
         worded = worded;
         long = short ∙ r.long;
         asked = λ t. asks_all ending command r.seen files.asked files'.asked (r.asked t);

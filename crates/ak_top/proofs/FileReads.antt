@@ -17,12 +17,12 @@ use Rattle.ak_script.specs.declared.fault.ScriptFault.TheVariants as script
 use Rattle.ak_image.specs.Image.{Image}
 use Rattle.ak_image.specs.declared.fault.ImageFault.{ImageFault}
 use Rattle.ak_image.specs.declared.fault.ImageFault.TheVariants as image
-use Rattle.ak_outside.specs.Causes.{Rose, HasCause}
-use Rattle.ak_outside.specs.Reads.{Asks, Hands, held_length}
+use Rattle.ak_outside.specs.Causes.{Rose}
+use Rattle.ak_outside.specs.Reads.{Asks, CountsRead, Hands, held_length}
 use Rattle.ak_outside.specs.declared.files.FilesFault.{FilesFault}
 use Rattle.ak_outside.specs.declared.files.FilesFault.TheVariants as fault
 use Rattle.ak_top.specs.Inputs.{limit, or_trouble, script_trouble, bytes_in}
-use Rattle.ak_top.specs.Reads.{IsDue, is_long, is_too_long, is_of_others, AskedAt, AsksFor, ReadsFile}
+use Rattle.ak_top.specs.Reads.{IsDue, is_long, is_too_long, is_of_others, CountsBy, AskedAt, AsksFor, ReadsFile}
 use Rattle.ak_top.specs.Seen.{FilesState}
 use Rattle.ak_top.specs.Trouble.{trouble_of_read, trouble_of_image, trouble_of_signers, trouble_of_script}
 use Rattle.ak_top.specs.declared.trouble.Place.{Place}
@@ -68,60 +68,56 @@ module _ (place : Place) (name : List ℕ) (files files' : FilesState) where
       files'.content ≡ files.content → files'.tells ≡ files.tells →
       (IsTrue files.tells → Asks files.asked files'.asked name r) → Hands limit files'.handed r →
       (IsTrue files.tells → files'.handed ≤ held_length (files.content name)) →
-      HasCause files.faults files'.faults fault.Failed r →
+      CountsRead files.faults files'.faults r →
       ReadsFile (bytes_in place) name files files' (result_map_both (λ (bytes : Vec ℕ Global). bytes.items) (λ f. trouble_of_read f place) r)
-  file_read (Ok v) bytes content tells asked handed within cause =
+  file_read (Ok v) bytes content tells asked handed within counts =
       let short = not_long (Ok v) files'.handed handed (λ e. absurd (cc)) in
       record {
         seen = Some v.items;
         sees = λ t. inl (sym (bytes t));
         due = inl (sym (short_enough place v.items (let le = ltb-false limit files'.handed (sym short) in omega (arith, handed.ok))));
-        failed = λ p e. absurd (cc);
+        counts = counts;
         long = short;
         own = refl;
         asked = asked;
         content = content;
         tells = tells;
-        later = cause.later;
       }
-  file_read (Err fault.Failed) bytes content tells asked handed within cause = record {
+  file_read (Err fault.Failed) bytes content tells asked handed within counts = record {
     seen = None;
-    sees = λ t. inr (refl, cause.failed refl);
+    sees = λ t. inr (refl, omega (arith, counts));
     due = inl refl;
-    failed = λ p e. cause.failed refl;
+    counts = counts;
     long = not_long (Err fault.Failed) files'.handed handed (λ e. absurd (cc));
     own = refl;
     asked = asked;
     content = content;
     tells = tells;
-    later = cause.later;
   }
-  file_read (Err fault.TooLong) bytes content tells asked handed within cause =
+  file_read (Err fault.TooLong) bytes content tells asked handed within counts =
       let many : limit < files'.handed = handed.too_long.0 refl in
       let long = long_seen place files.tells (files.content name) files'.handed many within in
       record {
         seen = long.seen;
         sees = λ t. inl (long.sees t);
         due = inl (sym long.long);
-        failed = λ p e. absurd (cc);
+        counts = counts;
         long = sym (grind (arith, nat_tests, many));
         own = refl;
         asked = asked;
         content = content;
         tells = tells;
-        later = cause.later;
       }
-  file_read (Err fault.OutOfMemory) bytes content tells asked handed within cause = record {
+  file_read (Err fault.OutOfMemory) bytes content tells asked handed within counts = record {
     seen = files.content name;
     sees = λ t. inl refl;
     due = inr refl;
-    failed = λ p e. absurd (cc);
+    counts = counts;
     long = not_long (Err fault.OutOfMemory) files'.handed handed (λ e. absurd (cc));
     own = refl;
     asked = asked;
     content = content;
     tells = tells;
-    later = cause.later;
   }
 
 -- ---- What is due, by stages
@@ -160,9 +156,11 @@ abbrev pub IsRead : {A : Type 0} → Result A Trouble → Type 0
 IsRead (Ok x) = Unit {0}
 IsRead (Err trouble) = is_of_outside trouble ≡ false
 
-read_not_failed : {A : Type 0} (given : Result A Trouble) (place : Place) → IsRead given → given ≡ Err (ReadFailed place) → ⊥
-read_not_failed (Ok x) place h e = cc
-read_not_failed {A} (Err trouble) place h e = let P : Result A Trouble → Type 0 = IsRead in absurd (cc)
+read_counts : {A : Type 0} (given : Result A Trouble) (before now : ℕ) → IsRead given → now ≡ before → CountsBy given before now
+read_counts (Ok x) before now h e = e
+read_counts (Err (ReadFailed place)) before now h e = absurd (cc)
+read_counts (Err OutOfMemory) before now h e = inl e
+read_counts (Err _) before now h e = e
 
 read_not_long : {A : Type 0} (given : Result A Trouble) → IsRead given → is_too_long given ≡ false
 read_not_long (Ok x) h = refl
@@ -188,13 +186,12 @@ module _ {A : Type 0} (place : Place) (name : List ℕ) (files files' : FilesSta
     seen = r.seen;
     sees = r.sees;
     due = due_err (bytes_in place r.seen) said trouble r.due;
-    failed = λ p e. r.failed p (err_as trouble (ReadFailed p) e);
+    counts = r.counts;
     long = r.long;
     own = r.own;
     asked = r.asked;
     content = r.content;
     tells = r.tells;
-    later = r.later;
   }
 
   -- they were read, and what they say was given
@@ -204,13 +201,12 @@ module _ {A : Type 0} (place : Place) (name : List ℕ) (files files' : FilesSta
     seen = r.seen;
     sees = r.sees;
     due = due_then (bytes_in place r.seen) said bytes given r.due due;
-    failed = λ p e. absurd (read_not_failed given p read e);
+    counts = read_counts given _ _ read r.counts;
     long = read_not_long given read ∙ r.long;
     own = read_is_own given read;
     asked = λ t. read_asked given name files.asked files'.asked (r.asked t);
     content = r.content;
     tells = r.tells;
-    later = r.later;
   }
 
 -- ---- What readers give

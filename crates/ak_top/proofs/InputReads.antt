@@ -8,8 +8,8 @@ use Rattle.ak_measure.specs.Stages.{◌>>=◌}
 use Rattle.ak_image.specs.Image.{Image}
 use Rattle.ak_outside.specs.Causes.{Rose}
 use Rattle.ak_top.specs.Inputs.{limit, image_in, signers_in, moves_in, inputs_in, where_well, asked_in}
-use Rattle.ak_top.proofs.FileReads.{err_as, due_err, value_is, due_then}
-use Rattle.ak_top.specs.Reads.{IsDue, is_long, is_foreign, is_too_long, AskedAt, AsksFor, AsksFront, AsksBy, AsksUpTo, ReadsFile, Reads}
+use Rattle.ak_top.proofs.FileReads.{due_err, value_is, due_then}
+use Rattle.ak_top.specs.Reads.{IsDue, CountsAt, CountsBy, is_long, is_foreign, is_too_long, AskedAt, AsksFor, AsksFront, AsksBy, AsksUpTo, ReadsFile, Reads}
 use Rattle.ak_top.specs.Seen.{FilesState, Contents, IsSeen, files_of}
 use Rattle.ak_top.specs.Words.{Names, Command, Run, Measure}
 use Rattle.ak_top.specs.declared.inputs.Inputs.{Inputs}
@@ -31,7 +31,6 @@ pub record ReadsWithin {A : Type 0} (said : Option (List ℕ) → Result A Troub
   pub seen : Option (List ℕ)
   pub sees : IsTrue files.tells → IsSeen files.faults files'.faults (files.content name) seen
   pub due : IsDue (said seen) given
-  pub failed : (place : Place) → given ≡ Err (ReadFailed place) → Rose files.faults files'.faults
 
 -- the files are what they were, but for names that were asked and faults that were counted
 pub record IsLaterState (files files' : FilesState) : Type 0 where
@@ -45,9 +44,16 @@ same_state files = record { content = refl; tells = refl; later = omega arith }
 pub then_later : (a b c : FilesState) → IsLaterState a b → IsLaterState b c → IsLaterState a c
 then_later a b c h k = record { content = k.content ∙ h.content; tells = k.tells ∙ h.tells; later = omega (arith, h.later, k.later) }
 
+counts_later : {A : Type 0} (given : Result A Trouble) (before now : ℕ) → CountsBy given before now → before ≤ now
+counts_later (Ok x) before now e = omega (arith, e)
+counts_later (Err (ReadFailed place)) before now e = omega (arith, e)
+counts_later (Err OutOfMemory) before now (inl e) = omega (arith, e)
+counts_later (Err OutOfMemory) before now (inr e) = omega (arith, e)
+counts_later (Err _) before now e = omega (arith, e)
+
 pub read_later : {A : Type 0} {said : Option (List ℕ) → Result A Trouble} {name : List ℕ} {files files' : FilesState} {given : Result A Trouble} →
     ReadsFile said name files files' given → IsLaterState files files'
-read_later r = record { content = r.content; tells = r.tells; later = r.later }
+read_later {A} {said} {name} {files} {files'} {given} r = record { content = r.content; tells = r.tells; later = counts_later given files.faults files'.faults r.counts }
 
 pub within : {A : Type 0} {said : Option (List ℕ) → Result A Trouble} {name : List ℕ} {b c : FilesState} {given : Result A Trouble} (a d : FilesState) →
     IsLaterState a b → ReadsFile said name b c given → IsLaterState c d → ReadsWithin said name a d given
@@ -58,7 +64,6 @@ within {A} {said} {name} {b} {c} {given} a d h r k = record {
       let P : (List ℕ → Option (List ℕ)) → Type 0 = λ content. IsSeen a.faults d.faults (content name) r.seen in
       subst P h.content (seen_within a.faults b.faults c.faults d.faults _ r.seen h.later k.later (r.sees told));
   due = r.due;
-  failed = λ p e. rose_within a.faults b.faults c.faults d.faults h.later k.later (r.failed p e);
 }
 
 -- ---- The names that were asked for
@@ -106,9 +111,9 @@ module _ (names : Names) (files files' : FilesState) where
   with_signers seen image = signers_in seen.signers >>= with_script seen image
 
   -- the image's file ends the reading
-  pub image_ends : (trouble : Trouble) → ImageGives (Err trouble) → is_long trouble ≡ nat_lt limit files'.handed → is_foreign trouble ≡ false →
+  pub image_ends : (trouble : Trouble) → ImageGives (Err trouble) → CountsAt trouble files.faults files'.faults → is_long trouble ≡ nat_lt limit files'.handed → is_foreign trouble ≡ false →
       (IsTrue files.tells → AskedAt trouble names.image files.asked files'.asked) → Reads inputs_in (Run names) files files' (Err trouble)
-  image_ends trouble r long own asked =
+  image_ends trouble r counts long own asked =
       let seen : Contents = record { image = r.seen; signers = files.content names.signers; script = files.content names.script } in
       let rest : List (List ℕ) = names.signers ∷ names.script ∷ [] in
       let due : (asked_in run seen ≡ names.image ∷ []) ⊎ (trouble ≡ OutOfMemory) =
@@ -118,16 +123,16 @@ module _ (names : Names) (files files' : FilesState) where
         seen = seen;
         sees = λ t. record { image = r.sees t; signers = inl refl; script = inl refl };
         due = due_err (image_in r.seen) (with_signers seen) trouble r.due;
-        failed = λ p e. r.failed p (err_as trouble (ReadFailed p) e);
+        counts = counts;
         long = long;
         own = own;
         asked = λ t. asks_up_to trouble run seen files.asked files'.asked [] names.image rest refl due (subst (λ all. AskedAt trouble names.image all files'.asked) (sym (append-nil files.asked)) (asked t));
       }
 
   -- the signers' file ends it
-  pub signers_end : (image : Image) (trouble : Trouble) → ImageGives (Ok image) → SignersGive (Err trouble) → is_long trouble ≡ nat_lt limit files'.handed → is_foreign trouble ≡ false →
+  pub signers_end : (image : Image) (trouble : Trouble) → ImageGives (Ok image) → SignersGive (Err trouble) → CountsAt trouble files.faults files'.faults → is_long trouble ≡ nat_lt limit files'.handed → is_foreign trouble ≡ false →
       (IsTrue files.tells → AskedAt trouble names.signers (files.asked ++ names.image ∷ []) files'.asked) → Reads inputs_in (Run names) files files' (Err trouble)
-  signers_end image trouble r s long own asked =
+  signers_end image trouble r s counts long own asked =
       let seen : Contents = record { image = r.seen; signers = s.seen; script = files.content names.script } in
       let due : (asked_in run seen ≡ names.image ∷ names.signers ∷ []) ⊎ (trouble ≡ OutOfMemory) =
       elim (after_trouble (signers_in s.seen) trouble (names.script ∷ []) s.due)
@@ -136,7 +141,7 @@ module _ (names : Names) (files files' : FilesState) where
         seen = seen;
         sees = λ t. record { image = r.sees t; signers = s.sees t; script = inl refl };
         due = due_then (image_in r.seen) (with_signers seen) image (Err trouble) r.due (due_err (signers_in s.seen) (with_script seen image) trouble s.due);
-        failed = λ p e. s.failed p (err_as trouble (ReadFailed p) e);
+        counts = counts;
         long = long;
         own = own;
         asked = λ t. asks_up_to trouble run seen files.asked files'.asked (names.image ∷ []) names.signers (names.script ∷ []) refl due (asked t);
@@ -144,9 +149,9 @@ module _ (names : Names) (files files' : FilesState) where
 
   -- the script's file ends it
   pub script_ends : (image : Image) (signers : Signed) (trouble : Trouble) → ImageGives (Ok image) → SignersGive (Ok signers) → ScriptGives (Err trouble) →
-      is_long trouble ≡ nat_lt limit files'.handed → is_foreign trouble ≡ false →
+      CountsAt trouble files.faults files'.faults → is_long trouble ≡ nat_lt limit files'.handed → is_foreign trouble ≡ false →
       (IsTrue files.tells → AskedAt trouble names.script (files.asked ++ names.image ∷ names.signers ∷ []) files'.asked) → Reads inputs_in (Run names) files files' (Err trouble)
-  script_ends image signers trouble r s m long own asked =
+  script_ends image signers trouble r s m counts long own asked =
       let seen : Contents = record { image = r.seen; signers = s.seen; script = m.seen } in
       let due : asked_in run seen ≡ names.image ∷ names.signers ∷ names.script ∷ [] =
       ap (λ rest. names.image ∷ rest) (after_value (image_in r.seen) image _ r.due ∙ ap (λ rest. names.signers ∷ rest) (after_value (signers_in s.seen) signers _ s.due)) in
@@ -155,7 +160,7 @@ module _ (names : Names) (files files' : FilesState) where
         sees = λ t. record { image = r.sees t; signers = s.sees t; script = m.sees t };
         due = due_then (image_in r.seen) (with_signers seen) image (Err trouble) r.due
             (due_then (signers_in s.seen) (with_script seen image) signers (Err trouble) s.due (due_err (moves_in m.seen) _ trouble m.due));
-        failed = λ p e. m.failed p (err_as trouble (ReadFailed p) e);
+        counts = counts;
         long = long;
         own = own;
         asked = λ t. asks_up_to trouble run seen files.asked files'.asked (names.image ∷ names.signers ∷ []) names.script [] refl (inl due) (asked t);
@@ -163,10 +168,10 @@ module _ (names : Names) (files files' : FilesState) where
 
   -- all was read
   pub all_read : (image : Image) (signers : Signed) (script : List Move) → ImageGives (Ok image) → SignersGive (Ok signers) → ScriptGives (Ok script) →
-      is_too_long {A = Inputs} (Ok (record { image = image; signers = signers; script = script })) ≡ nat_lt limit files'.handed →
+      files'.faults ≡ files.faults → is_too_long {A = Inputs} (Ok (record { image = image; signers = signers; script = script })) ≡ nat_lt limit files'.handed →
       (IsTrue files.tells → files'.asked ≡ files.asked ++ names.image ∷ names.signers ∷ names.script ∷ []) →
       Reads inputs_in (Run names) files files' (Ok (record { image = image; signers = signers; script = script }))
-  all_read image signers script r s m long asked =
+  all_read image signers script r s m counts long asked =
       let seen : Contents = record { image = r.seen; signers = s.seen; script = m.seen } in
       let due : asked_in run seen ≡ names.image ∷ names.signers ∷ names.script ∷ [] =
       ap (λ rest. names.image ∷ rest) (after_value (image_in r.seen) image _ r.due ∙ ap (λ rest. names.signers ∷ rest) (after_value (signers_in s.seen) signers _ s.due)) in
@@ -176,7 +181,7 @@ module _ (names : Names) (files files' : FilesState) where
         sees = λ t. record { image = r.sees t; signers = s.sees t; script = m.sees t };
         due = due_then (image_in r.seen) (with_signers seen) image (Ok inputs) r.due
             (due_then (signers_in s.seen) (with_script seen image) signers (Ok inputs) s.due (due_then (moves_in m.seen) _ script (Ok inputs) m.due (inl refl)));
-        failed = λ p e. absurd (cc);
+        counts = counts;
         long = long;
         own = refl;
         asked = λ t. asked t ∙ ap (λ names. files.asked ++ names) (sym due);
@@ -186,7 +191,7 @@ module _ (names : Names) (files files' : FilesState) where
 
 pub stops_at_image : (names : Names) (s0 s1 : FilesState) (trouble : Trouble) → ReadsFile image_in names.image s0 s1 (Err trouble) →
     Reads inputs_in (Run names) s0 s1 (Err trouble)
-stops_at_image names s0 s1 trouble r = image_ends names s0 s1 trouble (within s0 s1 (same_state s0) r (same_state s1)) r.long r.own r.asked
+stops_at_image names s0 s1 trouble r = image_ends names s0 s1 trouble (within s0 s1 (same_state s0) r (same_state s1)) r.counts r.long r.own r.asked
 
 still_tells : (s0 s1 : FilesState) → IsLaterState s0 s1 → IsTrue s0.tells → IsTrue s1.tells
 still_tells s0 s1 h t = subst (λ t. IsTrue t) (sym h.tells) t
@@ -195,12 +200,16 @@ pub stops_at_signers : (names : Names) (s0 s1 s2 : FilesState) (image : Image) (
     ReadsFile image_in names.image s0 s1 (Ok image) → ReadsFile signers_in names.signers s1 s2 (Err trouble) → Reads inputs_in (Run names) s0 s2 (Err trouble)
 stops_at_signers names s0 s1 s2 image trouble r s =
     let first = read_later r in
-    signers_end names s0 s2 image trouble (within s0 s2 (same_state s0) r (read_later s)) (within s0 s2 first s (same_state s2)) s.long s.own
+    signers_end names s0 s2 image trouble (within s0 s2 (same_state s0) r (read_later s)) (within s0 s2 first s (same_state s2))
+    (subst (λ before. CountsAt trouble before s2.faults) r.counts s.counts) s.long s.own
     (λ t. subst (λ all. AskedAt trouble names.signers all s2.asked) (r.asked t) (s.asked (still_tells s0 s1 first t)))
 
 module _ (names : Names) (s0 s1 s2 s3 : FilesState) (image : Image) (signers : Signed) (r : ReadsFile image_in names.image s0 s1 (Ok image)) (s : ReadsFile signers_in names.signers s1 s2 (Ok signers)) where
   both_later : IsLaterState s0 s2
   both_later = then_later s0 s1 s2 (read_later r) (read_later s)
+
+  both_count : s2.faults ≡ s0.faults
+  both_count = s.counts ∙ r.counts
 
   -- the names of the image and of the signers were asked for
   both_asked : IsTrue s0.tells → s2.asked ≡ s0.asked ++ names.image ∷ names.signers ∷ []
@@ -211,7 +220,8 @@ module _ (names : Names) (s0 s1 s2 s3 : FilesState) (image : Image) (signers : S
   stops_at_script trouble m =
       let last = read_later m in
       script_ends names s0 s3 image signers trouble
-      (within s0 s3 (same_state s0) r (then_later s1 s2 s3 (read_later s) last)) (within s0 s3 (read_later r) s last) (within s0 s3 both_later m (same_state s3)) m.long m.own
+      (within s0 s3 (same_state s0) r (then_later s1 s2 s3 (read_later s) last)) (within s0 s3 (read_later r) s last) (within s0 s3 both_later m (same_state s3))
+      (subst (λ before. CountsAt trouble before s3.faults) both_count m.counts) m.long m.own
       (λ t. subst (λ all. AskedAt trouble names.script all s3.asked) (both_asked t) (m.asked (still_tells s0 s2 both_later t)))
 
   pub reads_all : (script : List Move) → ReadsFile moves_in names.script s2 s3 (Ok script) →
@@ -219,7 +229,7 @@ module _ (names : Names) (s0 s1 s2 s3 : FilesState) (image : Image) (signers : S
   reads_all script m =
       let last = read_later m in
       all_read names s0 s3 image signers script
-      (within s0 s3 (same_state s0) r (then_later s1 s2 s3 (read_later s) last)) (within s0 s3 (read_later r) s last) (within s0 s3 both_later m (same_state s3)) m.long
+      (within s0 s3 (same_state s0) r (then_later s1 s2 s3 (read_later s) last)) (within s0 s3 (read_later r) s last) (within s0 s3 both_later m (same_state s3)) (m.counts ∙ both_count) m.long
       (λ t. m.asked (still_tells s0 s2 both_later t) ∙ ap (λ all. all ++ names.script ∷ []) (both_asked t) ∙ append_assoc s0.asked (names.image ∷ names.signers ∷ []) (names.script ∷ []))
 
 -- ---- The image alone
@@ -232,7 +242,7 @@ image_read name files files' given r =
       seen = seen;
       sees = λ t. record { image = r.sees t; signers = inl refl; script = inl refl };
       due = r.due;
-      failed = r.failed;
+      counts = r.counts;
       long = r.long;
       own = r.own;
       asked = λ t. asks_image given (r.asked t);

@@ -6,13 +6,12 @@ use Rattle.std.specs.Prelude.{IsTrue, Option, Some, None, Result, Ok, Err, nat_l
 use Rattle.ak_outside.specs.Causes.{Rose}
 use Rattle.ak_top.specs.Ends.{Ends, EndsAt, Does}
 use Rattle.ak_top.specs.Inputs.{limit, Task, task_in}
-use Rattle.ak_top.specs.Reads.{is_too_long}
+use Rattle.ak_top.specs.Reads.{CountsBy, is_too_long}
 use Rattle.ak_top.specs.Seen.{FilesState, SinkState, Contents, contents_of, IsSeen, AreSeen}
 use Rattle.ak_top.specs.Told.{Told}
 use Rattle.ak_top.specs.TopCall.{status_by, Tells, Serves}
 use Rattle.ak_top.specs.Trouble.{status_of, line_of}
 use Rattle.ak_top.specs.Words.{Command}
-use Rattle.ak_top.specs.declared.trouble.Place.{Place}
 use Rattle.ak_top.specs.declared.trouble.Trouble.{Trouble}
 use Rattle.ak_top.specs.declared.trouble.Trouble.TheVariants.{Usage, ReadFailed, TooLong, ImageRefused, SignersRefused, ScriptRefused, UnknownSigner, NotSigned, WriteFailed, OutOfMemory}
 
@@ -29,6 +28,7 @@ serves_usage files out err err' told = record {
   asked = λ t. sym (append-nil files.asked);
   usage = (λ e. refl, λ e. refl);
   unread = λ e. refl;
+  counts = refl;
   read = λ e. absurd (cc);
   long = (λ e. absurd (cc), λ h. absurd (let none = h.0 in cc));
   complete = λ t files out. inl refl;
@@ -42,8 +42,8 @@ at_usage (Ok u) e = absurd (cc)
 at_usage (Err _) e = absurd (cc)
 
 module _ (files files' : FilesState) where
-  at_read : (ending : Result (Unit {0}) Trouble) → ((place : Place) → ending ≡ Err (ReadFailed place) → Rose files.faults files'.faults) → status_by ending ≡ 5 → Rose files.faults files'.faults
-  at_read (Err (ReadFailed place)) h e = h place refl
+  at_read : (ending : Result (Unit {0}) Trouble) → CountsBy ending files.faults files'.faults → status_by ending ≡ 5 → Rose files.faults files'.faults
+  at_read (Err (ReadFailed place)) h e = omega (arith, h)
   at_read (Ok u) h e = absurd (cc)
   at_read (Err _) h e = absurd (cc)
 
@@ -75,7 +75,7 @@ module _ (files files' : FilesState) where
 due_status : (ending : Result (Unit {0}) Trouble) (wanted : Result Task Trouble) (out out' : SinkState) → (Rose out.faults out'.faults → ⊥) → Ends ending wanted out out' →
     (status_by ending ≡ status_by wanted) ⊎ (status_by ending ≡ 7)
 due_status (Ok u) wanted out out' unrisen h = inl (sym (ap status_by h.due))
-due_status (Err WriteFailed) wanted out out' unrisen h = absurd (unrisen h.rose)
+due_status (Err WriteFailed) wanted out out' unrisen h = absurd (unrisen (omega (arith, h.failed)))
 due_status (Err OutOfMemory) wanted out out' unrisen h = inr refl
 due_status (Err _) wanted out out' unrisen h = inl (sym (ap status_by h.due))
 
@@ -91,7 +91,8 @@ serves command files files' out out' err err' ending d tells = record {
   asked = d.asked;
   usage = (λ e. absurd (d.worded (at_usage ending e)), λ e. absurd (cc));
   unread = λ e. absurd (cc);
-  read = at_read files files' ending d.failed;
+  counts = d.counts;
+  read = at_read files files' ending d.counts;
   long = (λ e. (refl, at_long files files' ending d.long e), λ h. from_long files files' ending d.long h.1);
   complete = λ t no_fault no_sink.
       let P : Contents → Type 0 = λ seen. (status_by ending ≡ status_by (task_in (Some command) seen)) ⊎ (status_by ending ≡ 7) in

@@ -2,19 +2,18 @@
 use Rattle.std.specs.Prelude.{◌≡◌, ℕ, ◌++◌, ◌⊎◌, IsTrue, List, Option, Some, Result, Ok, Err, codes, nat_lt}
 use Rattle.hex.specs.Hex.{encode_lower}
 use Rattle.ak_core.specs.Journal.{Journal}
-use Rattle.ak_outside.specs.Causes.{Rose}
+use Rattle.ak_outside.specs.Causes.{one_more}
 use Rattle.ak_outside.specs.Taken.{with_more, TakesFront}
 use Rattle.ak_image.specs.Built.{digest_of}
 use Rattle.ak_top.specs.Words.{Command}
 use Rattle.ak_top.specs.Seen.{FilesState, SinkState, Contents, contents_of, AreSeen}
 use Rattle.ak_top.specs.Inputs.{limit, Task, Report, Digest, signed, task_in}
-use Rattle.ak_top.specs.Reads.{is_too_long, AsksBy}
+use Rattle.ak_top.specs.Reads.{CountsBy, is_too_long, AsksBy}
 use Rattle.ak_top.specs.Report.{report_of}
 use Rattle.ak_top.specs.Journals.{IsJournalOf}
 use Rattle.ak_top.specs.declared.inputs.Inputs.{Inputs}
-use Rattle.ak_top.specs.declared.trouble.Place.{Place}
 use Rattle.ak_top.specs.declared.trouble.Trouble.{Trouble}
-use Rattle.ak_top.specs.declared.trouble.Trouble.TheVariants.{Usage, ReadFailed, WriteFailed, OutOfMemory}
+use Rattle.ak_top.specs.declared.trouble.Trouble.TheVariants.{Usage, WriteFailed, OutOfMemory}
 
 -- a digest in 64 lower-case hexadecimal digits, and a newline
 abbrev pub digest_text : List ℕ → List ℕ
@@ -25,13 +24,14 @@ abbrev pub IsTextOf : Task → List ℕ → Type 0
 IsTextOf (Report inputs) text = (journal : Journal) × IsJournalOf inputs journal × (text ≡ report_of journal)
 IsTextOf (Digest image) text = text ≡ digest_text (digest_of image)
 
--- the sink took a whole text that was to be written
+-- the sink took a whole text that was to be written, without a fault
 pub record Writes (wanted : Result Task Trouble) (out out' : SinkState) : Type 0 where
   pub task : Task
   pub due : wanted ≡ Ok task
   pub text : List ℕ
   pub is : IsTextOf task text
   pub taken : out'.taken ≡ with_more out.taken text
+  pub unfailed : out'.faults ≡ out.faults
 
 -- the sink took a front of such a text, and failed
 pub record WritesFront (wanted : Result Task Trouble) (out out' : SinkState) : Type 0 where
@@ -40,7 +40,7 @@ pub record WritesFront (wanted : Result Task Trouble) (out out' : SinkState) : T
   pub text : List ℕ
   pub is : IsTextOf task text
   pub taken : TakesFront out.taken out'.taken text
-  pub rose : Rose out.faults out'.faults
+  pub failed : out'.faults ≡ one_more out.faults
 
 -- the trouble was due, and the sink was let alone
 pub record Stops (wanted : Result Task Trouble) (trouble : Trouble) (out out' : SinkState) : Type 0 where
@@ -63,17 +63,17 @@ pub record Does (command : Command) (files files' : FilesState) (out out' : Sink
   pub seen : Contents
   pub sees : IsTrue files.tells → AreSeen files.faults files'.faults (contents_of files.content (Some command)) seen
   pub ends : Ends ending (task_in (Some command) seen) out out'
-  pub failed : (place : Place) → ending ≡ Err (ReadFailed place) → Rose files.faults files'.faults
+  pub counts : CountsBy ending files.faults files'.faults
   pub worded : ending ≡ Err Usage → ⊥
   pub long : is_too_long ending ≡ nat_lt limit files'.handed
   pub asked : IsTrue files.tells → AsksBy ending (Some command) seen files.asked files'.asked
 
 -- ---- Steps
 
--- a text was written whole, or a front of it at a fault, or nothing where memory ran out
+-- a text was written whole and without a fault, or a front of it up to a fault, or nothing where memory ran out
 abbrev pub WritesText : Result (Unit {0}) Trouble → List ℕ → SinkState → SinkState → Type 0
-WritesText (Ok u) text out out' = out'.taken ≡ with_more out.taken text
-WritesText (Err WriteFailed) text out out' = TakesFront out.taken out'.taken text × Rose out.faults out'.faults
+WritesText (Ok u) text out out' = (out'.taken ≡ with_more out.taken text) × (out'.faults ≡ out.faults)
+WritesText (Err WriteFailed) text out out' = TakesFront out.taken out'.taken text × (out'.faults ≡ one_more out.faults)
 WritesText (Err OutOfMemory) text out out' = out' ≡ out
 WritesText (Err trouble) text out out' = ⊥
 

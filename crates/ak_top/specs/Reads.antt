@@ -1,6 +1,6 @@
 -- What the reading of a file, or of a command's files, came to.
-use Rattle.std.specs.Prelude.{◌≡◌, ◌⊎◌, ℕ, ◌≤◌, Bool, true, false, IsTrue, List, [], ◌∷◌, ◌++◌, Option, Some, Result, Ok, Err, nat_lt}
-use Rattle.ak_outside.specs.Causes.{Rose}
+use Rattle.std.specs.Prelude.{◌≡◌, ◌⊎◌, ℕ, Bool, true, false, IsTrue, List, [], ◌∷◌, ◌++◌, Option, Some, Result, Ok, Err, nat_lt}
+use Rattle.ak_outside.specs.Causes.{one_more}
 use Rattle.ak_top.specs.Words.{Command}
 use Rattle.ak_top.specs.Seen.{FilesState, Contents, contents_of, files_of, IsSeen, AreSeen}
 use Rattle.ak_top.specs.Inputs.{limit, asked_in}
@@ -33,6 +33,18 @@ abbrev pub is_of_others : {A : Type 0} → Result A Trouble → Bool
 is_of_others (Ok x) = false
 is_of_others (Err trouble) = is_foreign trouble
 
+-- by a trouble, the count of the files' faults grew by one where a file could not be read, and else stayed; where memory
+-- ran out, one or the other
+abbrev pub CountsAt : Trouble → ℕ → ℕ → Type 0
+CountsAt (ReadFailed place) before now = now ≡ one_more before
+CountsAt OutOfMemory before now = (now ≡ before) ⊎ (now ≡ one_more before)
+CountsAt _ before now = now ≡ before
+
+-- the same by what was given
+abbrev pub CountsBy : {A : Type 0} → Result A Trouble → ℕ → ℕ → Type 0
+CountsBy (Ok x) before now = now ≡ before
+CountsBy (Err trouble) before now = CountsAt trouble before now
+
 -- ---- One file
 
 -- the name was asked for
@@ -53,13 +65,12 @@ pub record ReadsFile {A : Type 0} (said : Option (List ℕ) → Result A Trouble
   pub seen : Option (List ℕ)
   pub sees : IsTrue files.tells → IsSeen files.faults files'.faults (files.content name) seen
   pub due : IsDue (said seen) given
-  pub failed : (place : Place) → given ≡ Err (ReadFailed place) → Rose files.faults files'.faults
+  pub counts : CountsBy given files.faults files'.faults
   pub long : is_too_long given ≡ nat_lt limit files'.handed
   pub own : is_of_others given ≡ false
   pub asked : IsTrue files.tells → AsksFor given name files.asked files'.asked
   pub content : files'.content ≡ files.content
   pub tells : files'.tells ≡ files.tells
-  pub later : files.faults ≤ files'.faults
 
 -- ---- A command's files
 
@@ -88,7 +99,7 @@ pub record Reads {A : Type 0} (said : Contents → Result A Trouble) (command : 
   pub seen : Contents
   pub sees : IsTrue files.tells → AreSeen files.faults files'.faults (contents_of files.content (Some command)) seen
   pub due : IsDue (said seen) given
-  pub failed : (place : Place) → given ≡ Err (ReadFailed place) → Rose files.faults files'.faults
+  pub counts : CountsBy given files.faults files'.faults
   pub long : is_too_long given ≡ nat_lt limit files'.handed
   pub own : is_of_others given ≡ false
   pub asked : IsTrue files.tells → AsksBy given (Some command) seen files.asked files'.asked

@@ -4,7 +4,7 @@ use Rattle.ak_outside.specs.Causes.{Rose}
 use Rattle.ak_top.specs.Words.{Command}
 use Rattle.ak_top.specs.Seen.{FilesState, SinkState, Contents, contents_of, AreSeen}
 use Rattle.ak_top.specs.Inputs.{limit, Task, task_in}
-use Rattle.ak_top.specs.Reads.{AsksBy}
+use Rattle.ak_top.specs.Reads.{CountsBy, AsksBy}
 use Rattle.ak_top.specs.Ends.{Ends}
 use Rattle.ak_top.specs.Told.{Told}
 use Rattle.ak_top.specs.Trouble.{status_of, line_of}
@@ -36,7 +36,9 @@ pub record Serves (status : ℕ) (command : Option Command) (files files' : File
   -- 2 comes exactly where the words give no command, and nothing is read there
   pub usage : (status ≡ 2) ↔ (command ≡ None)
   pub unread : command ≡ None → files' ≡ files
-  -- 5 comes only where the count of the files' faults rose
+  -- the count of the files' faults grew by one where a file could not be read, and else stayed; where memory ran out either
+  pub counts : CountsBy ending files.faults files'.faults
+  -- 5 comes only where it rose
   pub read : status ≡ 5 → Rose files.faults files'.faults
   -- 8 comes exactly where the last file that was asked handed over more than a file may have
   pub long : (status ≡ 8) ↔ (IsSome command × (limit < files'.handed))

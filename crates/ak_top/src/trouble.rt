@@ -1,9 +1,8 @@
 // Why a command ends without its text, and how that is told.
 ghost use Rattle.std.specs.Prelude.{◌≡◌, ◌++◌, OnOk, OnErr, Some, None, Option};
 ghost use Rattle.std.specs.Option.{option_map};
-ghost use Rattle.ak_outside.specs.Causes.{HasCause};
+ghost use Rattle.ak_outside.specs.Causes.{Counts};
 ghost use Rattle.ak_outside.specs.Taken.{with_more, TakesFront};
-ghost use Rattle.ak_outside.specs.declared.sink.SinkFault.TheVariants.{Failed};
 ghost use Rattle.ak_top.specs.CommandGiven.{command_given};
 ghost use Rattle.ak_top.specs.Refusals.{image_refusal, signers_refusal, script_refusal, page_of as the_page};
 ghost use Rattle.ak_top.specs.Told.{Told};
@@ -228,7 +227,7 @@ fn place_text<'a>(buffer: &'a mut Buffer, trouble: Trouble, command: Option<Comm
 fn write_reason<E: Sink>(err: &mut E, why: Kind) -> Result<(), SinkFault>
     ensures ok { OnOk result (E.taken err.new ≡ with_more (E.taken err.old) (script_refusal why)) }
     ensures err { OnErr result (TakesFront (E.taken err.old) (E.taken err.new) (script_refusal why)) }
-    ensures cause { HasCause (E.faults err.old) (E.faults err.new) Failed result }
+    ensures count { Counts (E.faults err.old) (E.faults err.new) result }
 {
     let mut buffer = Buffer::new();
     let number = buffer.format(why.number());
@@ -245,7 +244,7 @@ fn write_reason<E: Sink>(err: &mut E, why: Kind) -> Result<(), SinkFault>
 fn write_tail<E: Sink>(err: &mut E, trouble: Trouble) -> Result<(), SinkFault>
     ensures ok { OnOk result (E.taken err.new ≡ with_more (E.taken err.old) (tail_of trouble)) }
     ensures err { OnErr result (TakesFront (E.taken err.old) (E.taken err.new) (tail_of trouble)) }
-    ensures cause { HasCause (E.faults err.old) (E.faults err.new) Failed result }
+    ensures count { Counts (E.faults err.old) (E.faults err.new) result }
 {
     match trouble {
         Trouble::ScriptRefused(_, why) => write_reason(err, why),
@@ -261,7 +260,7 @@ fn write_line<E: Sink>(
 ) -> Result<(), SinkFault>
     ensures ok { OnOk result (E.taken err.new ≡ with_more (E.taken err.old) (line_of trouble (option_map command_given command.entry))) }
     ensures err { OnErr result (TakesFront (E.taken err.old) (E.taken err.new) (line_of trouble (option_map command_given command.entry))) }
-    ensures cause { HasCause (E.faults err.old) (E.faults err.new) Failed result }
+    ensures count { Counts (E.faults err.old) (E.faults err.new) result }
 {
     let mut buffer = Buffer::new();
     let place = place_text(&mut buffer, trouble, command);
