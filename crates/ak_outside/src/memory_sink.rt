@@ -1,5 +1,5 @@
 // A sink in memory, for tests and for programs that keep what they write.
-ghost use Rattle.std.specs.Prelude.{◌≡◌, ◌+◌, ◌≤◌, ◌||◌, ◌==◌, ℕ, [], true, false, Some, length, vec_len, vec_capacity, OnOk, OnErr, IsErr, IsTrue, ◌↔◌, if◌then◌else◌};
+ghost use Rattle.std.specs.Prelude.{◌≡◌, ◌+◌, ◌≤◌, ◌||◌, ◌==◌, ℕ, [], true, false, Some, length, vec_len, vec_capacity, OnOk, OnErr, IsErr, IsTrue, ◌↔◌};
 ghost use Rattle.ak_outside.specs.Causes.{Counts, one_more};
 ghost use Rattle.ak_outside.specs.Taken.{with_more, TakesFront};
 

@@ -17,7 +17,6 @@ use Rattle.ak_script.specs.declared.fault.ScriptFault.TheVariants as script
 use Rattle.ak_image.specs.Image.{Image}
 use Rattle.ak_image.specs.declared.fault.ImageFault.{ImageFault}
 use Rattle.ak_image.specs.declared.fault.ImageFault.TheVariants as image
-use Rattle.ak_outside.specs.Causes.{Rose}
 use Rattle.ak_outside.specs.Reads.{Asks, CountsRead, Hands, held_length}
 use Rattle.ak_outside.specs.declared.files.FilesFault.{FilesFault}
 use Rattle.ak_outside.specs.declared.files.FilesFault.TheVariants as fault

@@ -13,7 +13,6 @@ use Rattle.ak_top.specs.Reads.{IsDue, CountsAt, CountsBy, is_long, is_foreign, i
 use Rattle.ak_top.specs.Seen.{FilesState, Contents, IsSeen, files_of}
 use Rattle.ak_top.specs.Words.{Names, Command, Run, Measure}
 use Rattle.ak_top.specs.declared.inputs.Inputs.{Inputs}
-use Rattle.ak_top.specs.declared.trouble.Place.{Place}
 use Rattle.ak_top.specs.declared.trouble.Trouble.{Trouble}
 use Rattle.ak_top.specs.declared.trouble.Trouble.TheVariants.{Usage, ReadFailed, TooLong, ImageRefused, SignersRefused, ScriptRefused, UnknownSigner, NotSigned, WriteFailed, OutOfMemory}
 

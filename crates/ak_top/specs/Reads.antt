@@ -4,7 +4,6 @@ use Rattle.ak_outside.specs.Causes.{one_more}
 use Rattle.ak_top.specs.Words.{Command}
 use Rattle.ak_top.specs.Seen.{FilesState, Contents, contents_of, files_of, IsSeen, AreSeen}
 use Rattle.ak_top.specs.Inputs.{limit, asked_in}
-use Rattle.ak_top.specs.declared.trouble.Place.{Place}
 use Rattle.ak_top.specs.declared.trouble.Trouble.{Trouble}
 use Rattle.ak_top.specs.declared.trouble.Trouble.TheVariants.{Usage, ReadFailed, TooLong, WriteFailed, OutOfMemory}
 
