@@ -16,7 +16,3 @@ pub unwritten_more : (granted : List Touch) (old bytes new : ℕ → List ℕ) (
     KeepsUnwritten granted old bytes → KeepsUnwritten granted old new
 unwritten_more granted old bytes new q content writable is keeps p unwritten =
     ap (λ f. f p) is ∙ beside granted bytes q content p (p == q) refl writable unwritten ∙ keeps p unwritten
-
--- they keep them where all pages do
-pub unwritten_same : (granted : List Touch) (old new : ℕ → List ℕ) → new ≡ old → KeepsUnwritten granted old new
-unwritten_same granted old new is p unwritten = ap (λ f. f p) is

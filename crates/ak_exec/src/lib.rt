@@ -5,8 +5,6 @@ mod alu;
 mod fetching;
 mod interpreter;
 mod operands;
-#[cfg(test)]
-mod register_tests;
 mod registers;
 #[cfg(test)]
 mod tests;

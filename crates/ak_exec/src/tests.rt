@@ -1,5 +1,5 @@
-// Each encoding, trap and fault, over a memory of four pages.
-ghost use Rattle.std.specs.Prelude.{◌≡◌, ◌<◌, true, length};
+// Each encoding and each trap, over a memory of four pages.
+ghost use Rattle.std.specs.Prelude.{◌≡◌, ◌<◌, true, length, IfOk};
 ghost use Rattle.ak_core.specs.Mem.{Touches, touch};
 ghost use Rattle.ak_core.specs.declared.registers.Mode.TheVariants.{Program};
 ghost use Rattle.ak_exec.specs.FourPages.{are_inside, are_whole, is_in};
@@ -129,21 +129,6 @@ impl Mem for FourPages {
     }
 }
 
-/// Where RBX points, in page 2.
-const DATA: u64 = BASE + 0x2000;
-
-/// Where RSP points, in page 3.
-const STACK: u64 = BASE + 0x3100;
-
-/// The number in R9.
-const R9: u64 = 0x1122334455667788;
-
-/// The number at DATA + 16.
-const NUMBER: u64 = 0x8877665544332211;
-
-/// The number at STACK.
-const TOP: u64 = BASE + 0x40;
-
 /// A layout of four program pages at `BASE`.
 fn four_pages(rt: &HostRuntime) -> Result<Layout, Fail> {
     let perms = [Perm::Rx, Perm::Rx, Perm::Rw, Perm::Rw].to_vec(rt.alloc())?;
@@ -151,337 +136,200 @@ fn four_pages(rt: &HostRuntime) -> Result<Layout, Fail> {
     Ok(Layout::new(BASE, 0, perms, cluster_of, 1, 4, 16, 1, Build::Resident))
 }
 
-/// A memory with this code from a place on, and a number each at DATA + 16 and at STACK.
-fn memory(place: usize, code: &[u8], out: Option<u32>) -> FourPages {
-    let mut mem = FourPages::new(out);
-    mem.put(0x2010, &NUMBER.to_le_bytes());
-    mem.put(0x3100, &TOP.to_le_bytes());
-    mem.put(place, code);
-    mem
+/// Registers of the program: RBX points into page 2, and RSP into page 3.
+const PROGRAM: Regs = Regs {
+    gpr: [
+        4,
+        5,
+        0,
+        0x12000,
+        0x13100,
+        0,
+        77,
+        1,
+        0,
+        0x1122_3344_5566_7788,
+        0,
+        0,
+        0,
+        0,
+        0,
+        0,
+    ],
+    rip: BASE,
+    cf: true,
+    zf: false,
+    sf: false,
+    of: true,
+    mode: Mode::Program,
+};
+
+/// A hexadecimal number.
+fn number(digits: &str) -> Result<u64, Fail> {
+    Ok(u64::from_str_radix(digits, 16)?)
 }
 
-/// The program's registers: RAX 4, RCX 5, RSI 77, RDI 1. CF and OF are set.
-fn program(rip: u64) -> Regs
-    ensures { result.mode ≡ Program }
+/// Registers with those changed that words name by their numbers, as in `3=12000`. RIP has the number 10, and RFLAGS 11 (SDM
+/// volume 1, "EFLAGS Register": CF is bit 0, ZF 6, SF 7 and OF 11).
+fn changed(mut regs: Regs, words: &str) -> Result<Regs, Fail>
+    ensures { IfOk result (λ after. after.mode ≡ Program) }
 {
-    Regs {
-        gpr: [4, 5, 0, DATA, STACK, 0, 77, 1, 0, R9, 0, 0, 0, 0, 0, 0],
-        rip,
-        cf: true,
-        zf: false,
-        sf: false,
-        of: true,
-        mode: Mode::Program,
+    for word in words.split_whitespace() {
+        let (name, value) = word.split_once('=').ok_or(word)?;
+        set(&mut regs, number(name)?, number(value)?);
     }
+    regs.mode = Mode::Program;
+    Ok(regs)
 }
 
 /// Sets a register.
-fn set(regs: &mut Regs, reg: usize, value: u64)
-    ensures { regs.new.mode ≡ regs.old.mode }
-{
-    if let Some(register) = regs.gpr.get_mut(reg) {
-        *register = value;
-    }
-}
-
-/// A letter for each flag that is set: c, z, s and o.
-fn flags(regs: &Regs) -> [u8; 4] {
-    let letter = |is_set: bool, letter: u8| if is_set { letter } else { b'-' };
-    [
-        letter(regs.cf, b'c'),
-        letter(regs.zf, b'z'),
-        letter(regs.sf, b's'),
-        letter(regs.of, b'o'),
-    ]
-}
-
-/// Instructions that set one register: their bytes, the register, its value, and the flags.
-#[test]
-fn sets_a_register(rt: HostRuntime) -> Result<(), Fail> {
-    let layout = four_pages(&rt)?;
-    let rows: [(&'static [u8], usize, u64, &'static [u8; 4]); 17] = [
-        (
-            &[0x49, 0xb9, 0x11, 0x22, 0x33, 0x44, 0x55, 0x66, 0x77, 0x88],
-            9,
-            NUMBER,
-            b"c--o",
-        ),
-        (&[0x48, 0x89, 0xcb], 3, 5, b"c--o"),
-        (&[0x48, 0x8b, 0xd9], 3, 5, b"c--o"),
-        (&[0x4c, 0x8b, 0x93, 0x10, 0, 0, 0], 10, NUMBER, b"c--o"),
-        (
-            &[0x44, 0x8a, 0x8b, 0x10, 0, 0, 0],
-            9,
-            0x1122334455667711,
-            b"c--o",
-        ),
-        (&[0x48, 0x01, 0xcb], 3, DATA + 5, b"----"),
-        (&[0x48, 0x29, 0xcb], 3, DATA - 5, b"----"),
-        (&[0x49, 0x21, 0xf1], 9, 8, b"----"),
-        (&[0x49, 0x09, 0xf1], 9, 0x11223344556677cd, b"----"),
-        (&[0x49, 0x31, 0xf1], 9, 0x11223344556677c5, b"----"),
-        (&[0x48, 0x39, 0xcb], 3, DATA, b"----"),
-        (&[0x48, 0x85, 0xcb], 3, DATA, b"-z--"),
-        (&[0x48, 0x0f, 0xaf, 0xd9], 3, 0x5a000, b"----"),
-        (&[0x48, 0xc1, 0xe3, 0x04], 3, 0x120000, b"---o"),
-        (&[0x48, 0xc1, 0xeb, 0x04], 3, 0x1200, b"---o"),
-        (&[0x90], 3, DATA, b"c--o"),
-        (&[0x4c, 0x8b, 0x8b, 0xf0, 0xff, 0xff, 0xff], 9, 0, b"c--o"),
-    ];
-    for (code, reg, value, expected) in rows {
-        let mut mem = memory(0, code, None);
-        let mut regs = program(BASE);
-        let mut after = regs;
-        set(&mut after, reg, value);
-        assert_eq!(rt; exec(&layout, &mut regs, &mut mem), Turn::Done, "{code:?}");
-        assert_eq!(rt; regs.gpr, after.gpr, "{code:?}");
-        assert_eq!(rt;
-            (regs.rip, flags(&regs)),
-            (BASE.wrapping_add(code.len() as u64), *expected),
-            "{code:?}"
-        );
-    }
-    Ok(())
-}
-
-/// No register is set.
-const NOTHING: [(usize, u64); 2] = [(4, STACK); 2];
-
-/// RSP is set, by a push.
-const PUSHED: [(usize, u64); 2] = [(4, STACK - 8); 2];
-
-/// Instructions on the stack or on RIP, and stores: their bytes, the registers that they set, how far RIP is from the base
-/// then, and a number in memory. They set no flag.
-#[test]
-fn stores_and_jumps(rt: HostRuntime) -> Result<(), Fail> {
-    let layout = four_pages(&rt)?;
-    let rows: [(&'static [u8], [(usize, u64); 2], u64, usize, u64); 24] = [
-        (&[0x4c, 0x89, 0x8b, 0x20, 0, 0, 0], NOTHING, 7, 0x2020, R9),
-        (
-            &[0x4c, 0x89, 0x8b, 0xf8, 0xff, 0xff, 0xff],
-            NOTHING,
-            7,
-            0x1ff8,
-            R9,
-        ),
-        (
-            &[0x4c, 0x89, 0x8b, 0xf8, 0x1f, 0, 0],
-            NOTHING,
-            7,
-            0x3ff8,
-            R9,
-        ),
-        (
-            &[0x44, 0x88, 0x8b, 0x10, 0, 0, 0],
-            NOTHING,
-            7,
-            0x2010,
-            0x8877665544332288,
-        ),
-        (&[0x48, 0xf7, 0xf1], [(0, 0), (2, 4)], 3, 0x2010, NUMBER),
-        (&[0xe9, 0x10, 0, 0, 0], NOTHING, 0x15, 0x3100, TOP),
-        (
-            &[0xe9, 0xf0, 0xff, 0xff, 0xff],
-            NOTHING,
-            0xffff_ffff_ffff_fff5,
-            0x3100,
-            TOP,
-        ),
-        (&[0xe8, 0x10, 0, 0, 0], PUSHED, 0x15, 0x30f8, BASE + 5),
-        (&[0x0f, 0x82, 0x10, 0, 0, 0], NOTHING, 0x16, 0x3100, TOP),
-        (&[0x0f, 0x83, 0x10, 0, 0, 0], NOTHING, 6, 0x3100, TOP),
-        (&[0x0f, 0x84, 0x10, 0, 0, 0], NOTHING, 6, 0x3100, TOP),
-        (&[0x0f, 0x85, 0x10, 0, 0, 0], NOTHING, 0x16, 0x3100, TOP),
-        (&[0x0f, 0x8c, 0x10, 0, 0, 0], NOTHING, 0x16, 0x3100, TOP),
-        (&[0x0f, 0x8d, 0x10, 0, 0, 0], NOTHING, 6, 0x3100, TOP),
-        (&[0x0f, 0x8e, 0x10, 0, 0, 0], NOTHING, 0x16, 0x3100, TOP),
-        (&[0x0f, 0x8f, 0x10, 0, 0, 0], NOTHING, 6, 0x3100, TOP),
-        (&[0xc3], [(4, STACK + 8); 2], 0x40, 0x3100, TOP),
-        (&[0x51], PUSHED, 1, 0x30f8, 5),
-        (&[0x41, 0x51], PUSHED, 2, 0x30f8, R9),
-        (&[0x54], PUSHED, 1, 0x30f8, STACK),
-        (&[0x59], [(1, TOP), (4, STACK + 8)], 1, 0x3100, TOP),
-        (&[0x41, 0x59], [(9, TOP), (4, STACK + 8)], 2, 0x3100, TOP),
-        (&[0x5c], [(4, TOP); 2], 1, 0x3100, TOP),
-        (&[0x90], NOTHING, 1, 0x2010, NUMBER),
-    ];
-    for (code, registers, rip, place, number) in rows {
-        let mut mem = memory(0, code, None);
-        let mut regs = program(BASE);
-        let mut after = program(BASE.wrapping_add(rip));
-        for (reg, value) in registers {
-            set(&mut after, reg, value);
+fn set(regs: &mut Regs, register: u64, value: u64) {
+    match register {
+        0..16 => regs.gpr[register as usize] = value,
+        0x10 => regs.rip = value,
+        _ => {
+            regs.cf = value % 2 == 1;
+            regs.zf = value / 0x40 % 2 == 1;
+            regs.sf = value / 0x80 % 2 == 1;
+            regs.of = value / 0x800 % 2 == 1;
         }
-        assert_eq!(rt; exec(&layout, &mut regs, &mut mem), Turn::Done, "{code:?}");
-        assert_eq!(rt; regs, after, "{code:?}");
-        assert_eq!(rt; mem.number(place), number, "{code:?}");
+    }
+}
+
+/// A memory with this code from RIP on, a number at 2010 and one at 3100; and where the code ends.
+fn memory(rip: u64, code: &str, out: Option<u32>) -> Result<(FourPages, u64), Fail> {
+    let mut mem = FourPages::new(out);
+    mem.put(0x2010, &0x8877_6655_4433_2211u64.to_le_bytes());
+    mem.put(0x3100, &0x10040u64.to_le_bytes());
+    let mut end = rip;
+    for byte in code.split_whitespace() {
+        let byte = u8::from_str_radix(byte, 16)?;
+        mem.put(end.wrapping_sub(BASE) as usize, &[byte]);
+        end = end.wrapping_add(1);
+    }
+    Ok((mem, end))
+}
+
+/// A line a case: an instruction; the registers that differ from `PROGRAM` before it; how the turn ends; and where it
+/// completes, the registers that differ after it, but for RIP where that goes on, and a number in memory, by its distance from
+/// the base. They are by the manual, and for arithmetic as an x86-64 processor gave them. A flag that x86 leaves undefined
+/// stays.
+const CASES: &str = "\
+49 b9 11 22 33 44 55 66 77 88 | | Done | 9=8877665544332211
+48 89 cb | | Done | 3=5
+48 8b d9 | | Done | 3=5
+4c 8b 93 10 00 00 00 | | Done | a=8877665544332211
+4c 8b 8b f0 ff ff ff | | Done | 9=0
+44 8a 8b 10 00 00 00 | | Done | 9=1122334455667711
+4c 89 8b 20 00 00 00 | | Done | | 2020=1122334455667788
+4c 89 8b f8 ff ff ff | | Done | | 1ff8=1122334455667788
+4c 89 8b f8 1f 00 00 | | Done | | 3ff8=1122334455667788
+44 88 8b 10 00 00 00 | | Done | | 2010=8877665544332288
+4c 01 cb | 3=123456789abcdef0 9=fedcba987654321 11=8c1 | Done | 3=2222222222222211 11=0
+4c 29 cb | 3=123456789abcdef0 9=fedcba987654321 11=8c1 | Done | 3=2468acf13579bcf 11=0
+4c 21 cb | 3=123456789abcdef0 9=fedcba987654321 11=8c1 | Done | 3=224422882244220 11=0
+4c 09 cb | 3=123456789abcdef0 9=fedcba987654321 11=8c1 | Done | 3=1ffddff99ffddff1 11=0
+4c 31 cb | 3=123456789abcdef0 9=fedcba987654321 11=8c1 | Done | 3=1dd99dd11dd99dd1 11=0
+4c 39 cb | 3=123456789abcdef0 9=fedcba987654321 11=8c1 | Done | 11=0
+4c 85 cb | 3=123456789abcdef0 9=fedcba987654321 11=8c1 | Done | 11=0
+49 0f af d9 | 3=123456789abcdef0 9=fedcba987654321 11=8c1 | Done | 3=2236d88fe5618cf0 11=841
+49 0f af d9 | 3=fffffffffffffffd 9=5555555555555555 11=8c1 | Done | 3=1 11=841
+48 c1 e3 08 | 3=123456789abcdef1 11=8c1 | Done | 3=3456789abcdef100 11=800
+48 c1 e3 41 | 3=c000000000000003 11=8c1 | Done | 3=8000000000000006 11=81
+48 c1 e3 ff | 3=1 11=8c1 | Done | 3=8000000000000000 11=880
+48 c1 eb 08 | 3=123456789abcdef1 11=8c1 | Done | 3=123456789abcde 11=801
+48 c1 eb 41 | 3=c000000000000003 11=8c1 | Done | 3=6000000000000001 11=801
+48 c1 eb ff | 3=1 11=8c1 | Done | 3=0 11=840
+48 f7 f1 | 1=123456789abcdef1 2=123456789abcdef0 0=fedcba987654321 | Done | 0=fffffffffffffff2 2=eca8641fdb9744f
+90 | | Done
+e9 10 00 00 00 | | Done | 10=10015
+e9 f0 ff ff ff | | Done | 10=fff5
+e8 10 00 00 00 | | Done | 4=130f8 10=10015 | 30f8=10005
+0f 82 10 00 00 00 | | Done | 10=10016
+0f 83 10 00 00 00 | | Done
+0f 84 10 00 00 00 | | Done
+0f 85 10 00 00 00 | | Done | 10=10016
+0f 8c 10 00 00 00 | | Done | 10=10016
+0f 8d 10 00 00 00 | | Done
+0f 8e 10 00 00 00 | | Done | 10=10016
+0f 8f 10 00 00 00 | | Done
+c3 | | Done | 4=13108 10=10040
+51 | | Done | 4=130f8 | 30f8=5
+41 51 | | Done | 4=130f8 | 30f8=1122334455667788
+54 | | Done | 4=130f8 | 30f8=13100
+59 | | Done | 1=10040 4=13108
+41 59 | | Done | 9=10040 4=13108
+5c | | Done | 4=10040
+4c 89 8b fc 0f 00 00 | 10=10ffd | Done | | 2ffc=1122334455667788
+4c 8b 93 f9 ef ff ff | 10=10ffd | Done | a=f9938b4c00000000
+0f 01 d7 | 0=ffffffff00000004 | Called(1, 77) | 1=10003
+90 | 10=ffff | Trapped(13)
+90 | 10=14000 | Trapped(13)
+48 | 10=13fff | Trapped(13)
+06 | | Trapped(6)
+0f 05 | 10=10fff | Trapped(6)
+0f 0b | | Trapped(6)
+0f 0b | 10=10fff | Trapped(6)
+0f 01 d7 | 0=5 | Trapped(13)
+48 f7 f1 | 1=0 | Trapped(0)
+48 f7 f1 | 2=5 | Trapped(0)
+4c 8b 93 00 00 00 00 | 3=ffff | Trapped(13)
+44 8a 8b 00 00 00 00 | 3=14000 | Trapped(13)
+4c 89 8b 00 00 00 00 | 3=13ff9 | Trapped(13)
+44 88 8b 00 00 00 00 | 3=ffff | Trapped(13)
+51 | 4=10007 | Trapped(13)
+e8 00 00 00 00 | 4=4 | Trapped(13)
+59 | 4=13ff9 | Trapped(13)
+c3 | 4=14001 | Trapped(13)
+";
+
+#[test]
+fn runs_each_case(rt: HostRuntime) -> Result<(), Fail> {
+    let layout = four_pages(&rt)?;
+    for line in CASES.lines() {
+        let mut columns = line.split('|');
+        let code = columns.next().unwrap_or("");
+        let before = changed(PROGRAM, columns.next().unwrap_or(""))?;
+        let ending = columns.next().unwrap_or("").trim();
+        let after = columns.next().unwrap_or("");
+        let stored = columns.next().unwrap_or("").trim();
+        let (mut mem, end) = memory(before.rip, code, None)?;
+        let mut regs = before;
+        let turn = exec(&layout, &mut regs, &mut mem);
+        assert_eq!(rt;
+            format!(in rt.alloc(); "{turn:?}")?.as_str(),
+            ending,
+            "{line}"
+        );
+        if matches!(turn, Turn::Done | Turn::Called(..)) {
+            let after = changed(Regs { rip: end, ..before }, after)?;
+            assert_eq!(rt; regs, after, "{line}");
+        }
+        if let Some((place, value)) = stored.split_once('=') {
+            let place = number(place)? as usize;
+            assert_eq!(rt; mem.number(place), number(value)?, "{line}");
+        }
     }
     Ok(())
 }
 
+/// A store whose code and whose operand are each over two pages, of which one is out.
 #[test]
-fn calls_by_enclu(rt: HostRuntime) -> Result<(), Fail> {
+fn faults(rt: HostRuntime) -> Result<(), Fail> {
     let layout = four_pages(&rt)?;
-    for rax in [4, 0xffff_ffff_0000_0004] {
-        let mut mem = memory(16, &[0x0f, 0x01, 0xd7], None);
-        let mut regs = program(BASE + 16);
-        set(&mut regs, 0, rax);
-        let mut after = regs;
-        set(&mut after, 1, BASE + 19);
-        assert_eq!(rt; exec(&layout, &mut regs, &mut mem), Turn::Called(1, 77));
-        assert_eq!(rt; (regs.gpr, regs.rip), (after.gpr, BASE + 19));
-    }
-    Ok(())
-}
-
-/// Bytes at a place, a register with another value, the vector, and how many accesses there were before it.
-#[test]
-fn traps_with_nothing_changed(rt: HostRuntime) -> Result<(), Fail> {
-    let layout = four_pages(&rt)?;
-    let rows: [(u64, &'static [u8], usize, u64, u8, usize); 22] = [
-        (0xffff_ffff_ffff_ffff, &[0x90], 3, 0, 13, 0),
-        (0x4000, &[0x90], 3, 0, 13, 0),
-        (0x3fff, &[0x48], 3, 0, 13, 1),
-        (0x3ff7, &[0x49, 0xb9, 0, 0, 0, 0, 0, 0, 0], 3, 0, 13, 1),
-        (0, &[0x06], 3, 0, 6, 1),
-        (0xfff, &[0x06], 3, 0, 6, 1),
-        (0xfff, &[0x0f, 0x05], 3, 0, 6, 2),
-        (0, &[0x0f, 0x0b], 3, 0, 6, 1),
-        (0xfff, &[0x0f, 0x0b], 3, 0, 6, 2),
-        (0, &[0x0f, 0x01, 0xd7], 0, 5, 13, 1),
-        (0, &[0x48, 0xf7, 0xf1], 1, 0, 0, 1),
-        (0, &[0x48, 0xf7, 0xf1], 2, 5, 0, 1),
-        (0, &[0x4c, 0x8b, 0x93, 0, 0, 0, 0], 3, BASE - 1, 13, 1),
-        (0, &[0x4c, 0x8b, 0x93, 0, 0, 0, 0], 3, BASE + 0x3ff9, 13, 1),
-        (0, &[0x44, 0x8a, 0x8b, 0, 0, 0, 0], 3, BASE + 0x4000, 13, 1),
-        (0, &[0x4c, 0x89, 0x8b, 0, 0, 0, 0], 3, BASE + 0x3ff9, 13, 1),
-        (0, &[0x4c, 0x89, 0x8b, 0, 0, 0, 0], 3, u64::MAX, 13, 1),
-        (0, &[0x44, 0x88, 0x8b, 0, 0, 0, 0], 3, BASE - 1, 13, 1),
-        (0, &[0x51], 4, BASE + 7, 13, 1),
-        (0, &[0xe8, 0, 0, 0, 0], 4, 4, 13, 1),
-        (0, &[0x59], 4, BASE + 0x3ff9, 13, 1),
-        (0, &[0xc3], 4, BASE + 0x4001, 13, 1),
-    ];
-    for (place, code, reg, value, vector, accesses) in rows {
-        let mut mem = memory(place as usize, code, None);
-        let mut regs = program(BASE.wrapping_add(place));
-        set(&mut regs, reg, value);
-        let before = regs;
+    for (page, kind) in [
+        (0, Kind::Exec),
+        (1, Kind::Exec),
+        (2, Kind::Write),
+        (3, Kind::Write),
+    ] {
+        let mut regs = changed(PROGRAM, "10=10ffd")?;
+        let (mut mem, _) = memory(regs.rip, "4c 89 8b fc 0f 00 00", Some(page))?;
+        let page = Page(page);
         assert_eq!(rt;
             exec(&layout, &mut regs, &mut mem),
-            Turn::Trapped(vector),
-            "{code:?}"
+            Turn::Faulted(Fault { page, kind })
         );
-        assert_eq!(rt; regs, before, "{code:?}");
-        assert_eq!(rt; mem.granted.len(), accesses, "{code:?}");
-    }
-    Ok(())
-}
-
-/// What is done to a page.
-const fn access(page: u32, kind: Kind) -> Fault {
-    Fault {
-        page: Page(page),
-        kind,
-    }
-}
-
-/// Code and operand each over two pages: the accesses come in order, and then the bytes.
-#[test]
-fn straddles(rt: HostRuntime) -> Result<(), Fail> {
-    let layout = four_pages(&rt)?;
-    let mut mem = memory(
-        0xffd,
-        &[
-            0x4c, 0x89, 0x8b, 0xfc, 0x0f, 0, 0, 0x4c, 0x8b, 0x93, 0xfc, 0x0f, 0, 0,
-        ],
-        None,
-    );
-    let mut regs = program(BASE + 0xffd);
-    assert_eq!(rt; exec(&layout, &mut regs, &mut mem), Turn::Done);
-    assert_eq!(rt; mem.number(0x2ffc), R9);
-    assert_eq!(rt;
-        mem.granted.as_slice(),
-        [
-            access(0, Kind::Exec),
-            access(1, Kind::Exec),
-            access(2, Kind::Write),
-            access(3, Kind::Write)
-        ]
-        .as_slice()
-    );
-    assert_eq!(rt; exec(&layout, &mut regs, &mut mem), Turn::Done);
-    assert_eq!(rt; (regs.gpr[10], regs.rip), (R9, BASE + 0x100b));
-    assert_eq!(rt;
-        mem.granted.as_slice(),
-        [
-            access(1, Kind::Exec),
-            access(2, Kind::Read),
-            access(3, Kind::Read)
-        ]
-        .as_slice()
-    );
-    Ok(())
-}
-
-/// A page is out: bytes at a place, what RBX and RSP are, the page, the access that is refused, and how many were granted.
-#[test]
-fn faults_with_nothing_changed(rt: HostRuntime) -> Result<(), Fail> {
-    let layout = four_pages(&rt)?;
-    let border = BASE + 0x2ffc;
-    let rows: [(usize, &'static [u8], u64, u32, Kind, usize); 11] = [
-        (0, &[0x90], DATA, 0, Kind::Exec, 0),
-        (0xfff, &[0x0f, 0x0b], DATA, 1, Kind::Exec, 1),
-        (
-            0,
-            &[0x4c, 0x89, 0x8b, 0, 0, 0, 0],
-            border,
-            2,
-            Kind::Write,
-            1,
-        ),
-        (
-            0,
-            &[0x4c, 0x89, 0x8b, 0, 0, 0, 0],
-            border,
-            3,
-            Kind::Write,
-            2,
-        ),
-        (
-            0,
-            &[0x44, 0x88, 0x8b, 0, 0, 0, 0],
-            border,
-            2,
-            Kind::Write,
-            1,
-        ),
-        (0, &[0x4c, 0x8b, 0x93, 0, 0, 0, 0], border, 3, Kind::Read, 2),
-        (0, &[0x44, 0x8a, 0x8b, 0, 0, 0, 0], border, 2, Kind::Read, 1),
-        (0, &[0x41, 0x51], border + 8, 3, Kind::Write, 2),
-        (0, &[0xe8, 0, 0, 0, 0], border + 8, 3, Kind::Write, 2),
-        (0, &[0x59], border, 3, Kind::Read, 2),
-        (0xfff, &[0xc3], border, 3, Kind::Read, 2),
-    ];
-    for (place, code, value, out, kind, accesses) in rows {
-        let mut mem = memory(place, code, Some(out));
-        let mut regs = program(BASE + place as u64);
-        set(&mut regs, 3, value);
-        set(&mut regs, 4, value);
-        let before = regs;
-        let refused = access(out, kind);
-        assert_eq!(rt;
-            exec(&layout, &mut regs, &mut mem),
-            Turn::Faulted(refused),
-            "{code:?}"
-        );
-        assert_eq!(rt; regs, before, "{code:?}");
-        assert_eq!(rt;
-            (mem.number(0x2ffc), mem.granted.len()),
-            (0, accesses),
-            "{code:?}"
-        );
-        assert_eq!(rt; mem.refused, Some(refused));
     }
     Ok(())
 }
