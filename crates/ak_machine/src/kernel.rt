@@ -3,7 +3,7 @@ ghost use Rattle.std.specs.Prelude.{◌≡◌, ◌+◌, ◌<◌, ◌≤◌, ◌^
 ghost use Rattle.ak_machine.specs.Served.{is_first_or_none, is_served};
 ghost use Rattle.ak_machine.specs.State.{state_of, layout_of};
 ghost use Rattle.ak_machine.specs.Moves.{IsMove, KeepsRuntime, event_in, note_of_move};
-ghost use Rattle.ak_machine.specs.Notes.{NoteStands};
+ghost use Rattle.ak_machine.specs.Notes.{NoteStands, KeepsSaved, saved_access};
 
 use crate::activity::Activity;
 use crate::applied::{Applied, ProgramNote, RuntimeNote};
@@ -29,6 +29,7 @@ impl Machine {
         ensures layout { layout_of self.new ≡ layout_of self.old }
         ensures moved { IsMove (layout_of self.old) (state_of self.old) (state_of self.new) (Move.SetPte p e.frame e.flags)
             result None }
+        ensures saved { saved_access (state_of self.new).activity ≡ saved_access (state_of self.old).activity }
         ensures bytes { (state_of self.new).bytes ≡ (state_of self.old).bytes }
         ensures count { (state_of self.new).count ≡ (state_of self.old).count }
     {
@@ -56,6 +57,7 @@ impl Machine {
         ensures layout { layout_of self.new ≡ layout_of self.old }
         ensures moved { IsMove (layout_of self.old) (state_of self.old) (state_of self.new) (Move.Eenter lp value) result
             None }
+        ensures saved { saved_access (state_of self.new).activity ≡ saved_access (state_of self.old).activity }
         ensures bytes { (state_of self.new).bytes ≡ (state_of self.old).bytes }
         ensures count { (state_of self.new).count ≡ (state_of self.old).count }
     {
@@ -78,7 +80,8 @@ impl Machine {
         ensures moved { IsMove (layout_of self.old) (state_of self.old) (state_of self.new) (Move.Run lp turns) result.answer
             (event_in (layout_of self.old) result.program (state_of self.new).count) }
         ensures kept { KeepsRuntime (layout_of self.old) (state_of self.old) (state_of self.new) }
-        ensures fault { NoteStands (layout_of self.old) (state_of self.new) result.program }
+        ensures note { NoteStands (layout_of self.old) (state_of self.new) result.program }
+        ensures saved { KeepsSaved (layout_of self.old) result.program (state_of self.old).activity (state_of self.new).activity }
         ensures runtime { result.runtime ≡ note_of_move (Move.Run lp turns) (state_of self.old).activity }
         ensures completed { (state_of self.new).count ≡ (state_of self.old).count + result.completed }
         ensures few { result.completed ≤ turns }
@@ -109,7 +112,8 @@ impl Machine {
         ensures moved { IsMove (layout_of self.old) (state_of self.old) (state_of self.new) m.now result.answer
             (event_in (layout_of self.old) result.program (state_of self.new).count) }
         ensures kept { KeepsRuntime (layout_of self.old) (state_of self.old) (state_of self.new) }
-        ensures fault { NoteStands (layout_of self.old) (state_of self.new) result.program }
+        ensures note { NoteStands (layout_of self.old) (state_of self.new) result.program }
+        ensures saved { KeepsSaved (layout_of self.old) result.program (state_of self.old).activity (state_of self.new).activity }
         ensures runtime { result.runtime ≡ note_of_move m.now (state_of self.old).activity }
         ensures completed { (state_of self.new).count ≡ (state_of self.old).count + result.completed }
         ensures few { result.completed ≤ 1000000 }

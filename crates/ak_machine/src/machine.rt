@@ -110,7 +110,7 @@ impl Machine {
 
     ghost use Rattle.ak_machine.specs.Controls.{is_inside};
     ghost use Rattle.ak_machine.specs.Moves.{IsTurn, IsRun, KeepsRuntime, event_in, runtime_note, is_leaving, is_still};
-    ghost use Rattle.ak_machine.specs.Notes.{NoteStands, is_of_fault};
+    ghost use Rattle.ak_machine.specs.Notes.{NoteStands, is_of_next, saved_access, noted_access};
     ghost use Rattle.ak_machine.specs.Turning.{QuietlyLeaves};
 
     /// A turn of the program.
@@ -122,8 +122,9 @@ impl Machine {
             (event_in self.old.layout result.program self.new.count) }
         ensures calls { (result.program ≡ ProgramNote.Plain → ⊥) → result.exit ≡ None → is_leaving self.new.activity ≡ true }
         ensures kept { KeepsRuntime self.old.layout (state_of self.old) (state_of self.new) }
-        ensures fault { NoteStands self.old.layout (state_of self.new) result.program }
-        ensures faultless { result.exit ≡ None → is_of_fault result.program ≡ false }
+        ensures note { NoteStands self.old.layout (state_of self.new) result.program }
+        ensures saved { saved_access self.new.activity ≡ noted_access self.old.layout result.program }
+        ensures completes { result.exit ≡ None → is_of_next result.program ≡ false }
         ensures runtime { result.runtime ≡ RuntimeNote.Quiet }
         ensures steps { runtime_note self.new.activity ≡ RuntimeNote.Quiet }
         ensures left { is_inside self.new.activity ≡ not (is_some result.exit) }
@@ -205,6 +206,7 @@ impl Machine {
         ensures turn { IsTurn self.old.layout (state_of self.old) (state_of self.new) result.exit None }
         ensures bytes { (state_of self.new).bytes ≡ (state_of self.old).bytes }
         ensures quiet { result.program ≡ ProgramNote.Plain }
+        ensures saved { saved_access self.new.activity ≡ None }
         ensures runtime { result.runtime ≡ runtime_note self.old.activity }
         ensures steps { runtime_note self.new.activity ≡ RuntimeNote.Quiet }
         ensures gone { result.exit ≡ None → result.runtime ≡ RuntimeNote.Quiet }
@@ -245,6 +247,7 @@ impl Machine {
         ensures turn { IsTurn self.old.layout (state_of self.old) (state_of self.new) result.exit None }
         ensures bytes { (state_of self.new).bytes ≡ (state_of self.old).bytes }
         ensures quiet { result.program ≡ ProgramNote.Plain }
+        ensures saved { saved_access self.new.activity ≡ None }
         ensures runtime { result.runtime ≡ RuntimeNote.Quiet }
         ensures leaves { is_some result.exit ≡ true }
         ensures left { is_inside self.new.activity ≡ not (is_some result.exit) }
@@ -267,8 +270,9 @@ impl Machine {
         ensures leaves { is_leaving self.old.activity ≡ true → QuietlyLeaves result (self.old.count) (self.new.count) }
         ensures calls { (result.program ≡ ProgramNote.Plain → ⊥) → result.exit ≡ None → is_leaving self.new.activity ≡ true }
         ensures kept { KeepsRuntime self.old.layout (state_of self.old) (state_of self.new) }
-        ensures fault { NoteStands self.old.layout (state_of self.new) result.program }
-        ensures faultless { result.exit ≡ None → is_of_fault result.program ≡ false }
+        ensures note { NoteStands self.old.layout (state_of self.new) result.program }
+        ensures saved { saved_access self.new.activity ≡ noted_access self.old.layout result.program }
+        ensures completes { result.exit ≡ None → is_of_next result.program ≡ false }
         ensures runtime { result.runtime ≡ runtime_note self.old.activity }
         ensures gone { result.exit ≡ None → result.runtime ≡ RuntimeNote.Quiet }
         ensures steps { result.exit ≡ None → runtime_note self.new.activity ≡ RuntimeNote.Quiet }
@@ -294,7 +298,8 @@ impl Machine {
         ensures run { IsRun self.old.layout (state_of self.old) (state_of self.new) result.exit
             (event_in self.old.layout result.program self.new.count) turns }
         ensures kept { KeepsRuntime self.old.layout (state_of self.old) (state_of self.new) }
-        ensures fault { NoteStands self.old.layout (state_of self.new) result.program }
+        ensures note { NoteStands self.old.layout (state_of self.new) result.program }
+        ensures saved { saved_access self.new.activity ≡ noted_access self.old.layout result.program }
         ensures runtime { result.runtime ≡ runtime_note self.old.activity }
         ensures left { is_inside self.new.activity ≡ is_still result.exit }
         ensures grows { self.old.count ≤ self.new.count }

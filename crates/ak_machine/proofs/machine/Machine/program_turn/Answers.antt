@@ -1,10 +1,12 @@
-use Rattle.std.proofs.Common.{◌≡◌, ◌∙◌, ℕ, ◌+◌, ◌-◌, Bool, List, ap, subst, sym, arith}
+use Rattle.std.proofs.Common.{◌≡◌, ◌∙◌, ℕ, ◌+◌, ◌-◌, Bool, true, List, ap, subst, sym, arith}
 use Rattle.std.specs.Prelude.{Some, None}
+use Rattle.std.specs.List.{list_all}
+use Rattle.ak_core.specs.Mem.{Touch}
 use Rattle.ak_core.specs.declared.event.Event.{Event}
 use Rattle.ak_core.specs.declared.moves.Exit.{Exit}
 use Rattle.ak_machine.specs.declared.activity.Stage.{Stage}
 use Rattle.ak_machine.specs.declared.activity.Activity.{Activity}
-use Rattle.ak_machine.specs.Memory.{is_held, tables_of, bytes_of, length-bytes_of}
+use Rattle.ak_machine.specs.Memory.{is_held, finds, tables_of, bytes_of, length-bytes_of}
 use Rattle.ak_machine.specs.State.{State, state_of}
 use Rattle.ak_machine.specs.Faults.{fault_event}
 use Rattle.ak_machine.specs.Moves.{DoesTurn}
@@ -69,8 +71,8 @@ returns-in-Faulted-clause-turn c = λ image past returned shown events st.
     m.served c.requires.running c.in-Faulted.ensures.same_registers c.in-Faulted.ensures.tables c.in-Faulted.ensures.same_bytes
     c.in-Faulted.ensures.line n.found (n.lost access c.in-Faulted.ensures.refused) st))
 
-pub returns-in-Faulted-clause-fault : goal.returns-in-Faulted-clause-fault
-returns-in-Faulted-clause-fault c = λ flat regs shows.
+pub returns-in-Faulted-clause-note : goal.returns-in-Faulted-clause-note
+returns-in-Faulted-clause-note c = λ flat regs shows.
     let m = c.args.self.now in
     let n = c.exec.new.mem in
     let H : (ℕ → Bool) → Type 0 = λ holds. Shows m.layout holds (bytes_of n.frames.items n.epcm) flat in
@@ -79,6 +81,18 @@ returns-in-Faulted-clause-fault c = λ flat regs shows.
     subst B c.in-Faulted.ensures.same_bytes (subst H c.in-Faulted.ensures.holds shows) in
     let refuses = c.in-Faulted.ensures.line flat (regs ∙ c.in-Faulted.ensures.same_registers) before in
     record { granted = n.touched.items; rest = refuses.rest; next = refuses.next; found = n.found; lost = n.lost c.in-Faulted.access c.in-Faulted.ensures.refused }
+
+pub returns-in-Trapped-clause-note : goal.returns-in-Trapped-clause-note
+returns-in-Trapped-clause-note c = λ flat regs shows.
+    let m = c.args.self.now in
+    let n = c.exec.new.mem in
+    let H : (ℕ → Bool) → Type 0 = λ holds. Shows m.layout holds (bytes_of n.frames.items n.epcm) flat in
+    let B : (ℕ → List ℕ) → Type 0 = λ bytes. Shows m.layout (is_held m.memory.epcm) bytes flat in
+    let before : Shows m.layout (is_held m.memory.epcm) (bytes_of m.memory.frames.items m.memory.epcm) flat =
+    subst B c.in-Trapped.ensures.same_bytes (subst H c.in-Trapped.ensures.holds shows) in
+    let raises = c.in-Trapped.ensures.line flat (regs ∙ c.in-Trapped.ensures.same_registers) before in
+    let F : List Touch → Type 0 = λ touches. list_all (finds (tables_of n.table n.epcm)) touches ≡ true in
+    record { found = subst F raises.all n.found; ends = raises.ends }
 
 pub returns-in-Done-clause-kept : goal.returns-in-Done-clause-kept
 returns-in-Done-clause-kept c =

@@ -1,4 +1,4 @@
-use Rattle.std.proofs.Common.{◌≡◌, ◌≤◌, ◌<◌, ◌∙◌, ap, arith, sym, subst}
+use Rattle.std.proofs.Common.{◌≡◌, ◌≤◌, ◌<◌, ◌∙◌, refl, ap, arith, sym, subst, inl, inr}
 use Rattle.ak_machine.specs.declared.applied.Applied.{Applied}
 use Rattle.ak_machine.specs.State.{state_of}
 use Rattle.ak_machine.specs.Controls.{is_inside}
@@ -21,6 +21,9 @@ returns-then-lp-lps-clause-runtime c =
     let beyond : m.layout.lps ≤ c.args.lp.0 = omega (arith, c.if-lp-lps.true, c.lps.ensures) in
     ap (λ (applied : Applied). applied.runtime) c.plainly.ensures ∙ sym (no_note m.layout c.args.lp c.args.turns m.activity m.served beyond)
 
+pub returns-then-lp-lps-clause-saved : goal.returns-then-lp-lps-clause-saved
+returns-then-lp-lps-clause-saved c = inr refl
+
 pub returns-in-Outside-clause-moved : goal.returns-in-Outside-clause-moved
 returns-in-Outside-clause-moved c = λ image past returned shown events st.
     let m = c.args.self.now in
@@ -38,6 +41,9 @@ returns-in-Outside-clause-runtime c =
     ap (λ (applied : Applied). applied.runtime) c.plainly-in-Outside.ensures
     ∙ sym (first_note c.args.lp c.args.turns m.activity first ∙ ap runtime_note c.in-Outside.is)
 
+pub returns-in-Outside-clause-saved : goal.returns-in-Outside-clause-saved
+returns-in-Outside-clause-saved c = inr refl
+
 pub returns : goal.returns
 returns c =
     let m = c.args.self.now in
@@ -51,7 +57,8 @@ returns c =
           (event_in m.layout c.run_turns-ran.result.program c.run_turns-ran.new.self.count) returned shown events m.served first inside st
           (c.run_turns-ran.ensures.run image past returned shown events st);
       kept = c.run_turns-ran.ensures.kept;
-      fault = c.run_turns-ran.ensures.fault;
+      note = c.run_turns-ran.ensures.note;
+      saved = inl c.run_turns-ran.ensures.saved;
       runtime = c.run_turns-ran.ensures.runtime ∙ sym (first_note c.args.lp c.args.turns m.activity first);
       completed = omega arith;
       few = omega arith;

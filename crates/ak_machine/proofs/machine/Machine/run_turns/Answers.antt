@@ -7,9 +7,9 @@ use Rattle.ak_machine.specs.declared.applied.ProgramNote.{ProgramNote}
 use Rattle.ak_machine.specs.State.{state_of}
 use Rattle.ak_machine.specs.Stands.{Stands}
 use Rattle.ak_machine.specs.Moves.{DoesTurn, DoesRun, RunsSoFar, event_in}
-use Rattle.ak_machine.specs.Notes.{NoteStands, is_of_fault}
+use Rattle.ak_machine.specs.Notes.{NoteStands, is_of_next, noted_access}
 use Rattle.ak_machine.proofs.Runs.{leaves_any, goes_on_any, note_later, still}
-use Rattle.ak_machine.proofs.Notes.{no_fault, later_stands, later_faultless}
+use Rattle.ak_machine.proofs.Notes.{not_of_next, later_stands, later_of_next, none_noted, later_noted}
 use Rattle.ak_machine.proofs.machine.Machine.run_turns.Goals as goal
 
 pub returns-in-Some-clause-run : goal.returns-in-Some-clause-run
@@ -27,14 +27,14 @@ returns-in-Some-clause-run c = λ image past returned shown events st.
     (subst P c.loop-turn.invariant.layout (c.turn-turned.ensures.turn image past s.values shown now) s.stands)
     (λ shown_note. c.turn-turned.ensures.leaves (c.loop-turn.invariant.leaving shown_note)) c.in-Some.is (omega arith))
 
-pub returns-in-Some-clause-fault : goal.returns-in-Some-clause-fault
-returns-in-Some-clause-fault c =
+pub returns-in-Some-clause-note : goal.returns-in-Some-clause-note
+returns-in-Some-clause-note c =
     let first = c.args.self.now in
     let new = state_of c.turn-turned.new.self in
     let here : NoteStands first.layout new c.turn-turned.result.program =
-    subst (λ (l : Layout). NoteStands l new c.turn-turned.result.program) c.loop-turn.invariant.layout c.turn-turned.ensures.fault in
+    subst (λ (l : Layout). NoteStands l new c.turn-turned.result.program) c.loop-turn.invariant.layout c.turn-turned.ensures.note in
     subst (NoteStands first.layout new) (sym c.later_note-program.ensures)
-    (later_stands first.layout new c.turn-turned.result.program c.loop-turn.program here c.loop-turn.invariant.faultless)
+    (later_stands first.layout new c.turn-turned.result.program c.loop-turn.program here c.loop-turn.invariant.completes)
 
 pub loop-turn-preserved : goal.loop-turn-preserved
 loop-turn-preserved c = record {
@@ -54,8 +54,8 @@ loop-turn-preserved c = record {
   leaving = note_later c.turn-turned.result c.loop-turn.program c.later_note-program.result c.loop-turn.self.count c.turn-turned.new.self.count _
       c.later_note-program.ensures (λ shown_note. c.turn-turned.ensures.leaves (c.loop-turn.invariant.leaving shown_note)) c.in_default.is
       (λ shown_note. c.turn-turned.ensures.calls shown_note c.in_default.is);
-  faultless = ap is_of_fault c.later_note-program.ensures
-      ∙ later_faultless c.turn-turned.result.program c.loop-turn.program (c.turn-turned.ensures.faultless c.in_default.is) c.loop-turn.invariant.faultless;
+  completes = ap is_of_next c.later_note-program.ensures
+      ∙ later_of_next c.turn-turned.result.program c.loop-turn.program (c.turn-turned.ensures.completes c.in_default.is) c.loop-turn.invariant.completes;
   kept = λ p beyond. let P : Layout → Type 0 = λ l. pages l ≤ p in
       c.turn-turned.ensures.kept p (subst P (sym c.loop-turn.invariant.layout) beyond) ∙ c.loop-turn.invariant.kept p beyond;
   grows = omega arith;
@@ -64,6 +64,7 @@ loop-turn-preserved c = record {
   inside = c.turn-turned.ensures.left ∙ ap (λ exit. not (is_some exit)) c.in_default.is;
   noted = c.loop-turn.invariant.noted ∙ sym c.turn-turned.ensures.runtime ∙ c.turn-turned.ensures.gone c.in_default.is ∙ sym (c.turn-turned.ensures.steps c.in_default.is);
   quiet = λ some. c.turn-turned.ensures.steps c.in_default.is;
+  saved = λ some. c.turn-turned.ensures.saved ∙ none_noted c.loop-turn.self.layout c.turn-turned.result.program (c.turn-turned.ensures.completes c.in_default.is);
 }
 
 pub returns-clause-run : goal.returns-clause-run
@@ -72,10 +73,23 @@ returns-clause-run c = λ image past returned shown events st.
     still c.args.self.now.layout image past (state_of c.args.self.now) (state_of c.loop-turn.self) (event_in c.args.self.now.layout c.loop-turn.program c.loop-turn.self.count) c.args.turns returned shown events
     (rw e at (c.loop-turn.invariant.run image past returned shown events st))
 
-pub returns-clause-fault : goal.returns-clause-fault
-returns-clause-fault c = no_fault c.args.self.now.layout (state_of c.loop-turn.self) c.loop-turn.program c.loop-turn.invariant.faultless
+pub returns-clause-note : goal.returns-clause-note
+returns-clause-note c = not_of_next c.args.self.now.layout (state_of c.loop-turn.self) c.loop-turn.program c.loop-turn.invariant.completes
 
 pub returns-in-Some-clause-kept : goal.returns-in-Some-clause-kept
 returns-in-Some-clause-kept c p beyond =
     let P : Layout → Type 0 = λ l. pages l ≤ p in
     c.turn-turned.ensures.kept p (subst P (sym c.loop-turn.invariant.layout) beyond) ∙ c.loop-turn.invariant.kept p beyond
+
+pub returns-in-Some-clause-saved : goal.returns-in-Some-clause-saved
+returns-in-Some-clause-saved c =
+    let first = c.args.self.now in
+    c.turn-turned.ensures.saved
+    ∙ ap (λ (l : Layout). noted_access l c.turn-turned.result.program) c.loop-turn.invariant.layout
+    ∙ sym (ap (noted_access first.layout) c.later_note-program.ensures
+    ∙ later_noted first.layout c.turn-turned.result.program c.loop-turn.program c.loop-turn.invariant.completes)
+
+pub returns-clause-saved : goal.returns-clause-saved
+returns-clause-saved c =
+    c.loop-turn.invariant.saved (omega arith)
+    ∙ sym (none_noted c.args.self.now.layout c.loop-turn.program c.loop-turn.invariant.completes)
