@@ -14,3 +14,4 @@ pub mod Filling
 pub mod Builds
 pub mod Notes
 pub mod Kept
+pub mod Histories

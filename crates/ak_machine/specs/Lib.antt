@@ -10,3 +10,4 @@ pub mod Moves
 pub mod Turning
 pub mod Built
 pub mod Notes
+pub mod Histories
