@@ -7,11 +7,11 @@ use Rattle.ak_measure.specs.Signers.{knows, allows}
 use Rattle.ak_measure.specs.Stages.{◌>>=◌}
 use Rattle.ak_image.specs.Image.{Image}
 use Rattle.ak_top.specs.Ends.{digest_text, IsTextOf, Writes, WritesFront, Stops, EndsAt, Ends, Does, WritesText, Runs}
-use Rattle.ak_top.specs.Inputs.{Task, Report, Digest, image_in, signers_in, inputs_in, signed, task_in, where_well, asked_in}
+use Rattle.ak_top.specs.Inputs.{Task, Report, Digest, image_in, inputs_in, signed, task_in, asked_in}
 use Rattle.ak_top.specs.Journals.{IsJournalOf}
 use Rattle.ak_top.specs.Reads.{IsDue, CountsBy, is_foreign, is_too_long, AsksFront, AsksBy, AsksUpTo, ReadsFile, Reads}
 use Rattle.ak_top.specs.Report.{report_of}
-use Rattle.ak_top.specs.Seen.{FilesState, SinkState, Contents, files_of}
+use Rattle.ak_top.specs.Seen.{FilesState, SinkState, Contents}
 use Rattle.ak_image.specs.Built.{digest_of}
 use Rattle.ak_top.specs.Words.{Names, Command, Run, Measure}
 use Rattle.ak_top.specs.declared.inputs.Inputs.{Inputs}
@@ -41,27 +41,12 @@ trouble_ends _ wanted out out' own (inr e) still = absurd (cc)
 no_usage : (trouble : Trouble) → is_foreign trouble ≡ false → ◌≡◌ {A = Result (Unit {0}) Trouble} (Err trouble) (Err Usage) → ⊥
 no_usage trouble own e = let is : trouble ≡ Usage = cc in let wrong : true ≡ false = sym (ap is_foreign is) ∙ own in cc
 
--- ---- The names that were asked
-
--- those that are due are the first of the command's
-record IsFront (names all : List (List ℕ)) : Type 0 where
-  rest : List (List ℕ)
-  whole : names ++ rest ≡ all
-
-front_well : {A : Type 0} (r : Result A Trouble) (name : List ℕ) (names all : List (List ℕ)) → IsFront names all → IsFront (name ∷ where_well r names) (name ∷ all)
-front_well (Ok x) name names all f = record { rest = f.rest; whole = ap (λ xs. name ∷ xs) f.whole }
-front_well (Err t) name names all f = record { rest = all; whole = refl }
-
-due_front : (command : Command) (seen : Contents) → IsFront (asked_in (Some command) seen) (files_of (Some command))
-due_front (Run names) seen =
-    front_well (image_in seen.image) names.image _ _ (front_well (signers_in seen.signers) names.signers _ _ (record { rest = []; whole = refl }))
-due_front (Measure image) seen = record { rest = []; whole = refl }
-
+-- all names that are due were asked
 asks_all : (ending : Result (Unit {0}) Trouble) (command : Command) (seen : Contents) (asked asked' : List (List ℕ)) → asked' ≡ asked ++ asked_in (Some command) seen →
     AsksBy ending (Some command) seen asked asked'
 asks_all (Ok u) command seen asked asked' e = e
 asks_all (Err OutOfMemory) command seen asked asked' e =
-    let f = due_front command seen in record { front = asked_in (Some command) seen; rest = f.rest; whole = f.whole; more = e }
+    record { front = asked_in (Some command) seen; rest = []; whole = append-nil (asked_in (Some command) seen); more = e }
 asks_all (Err _) command seen asked asked' e = e
 
 -- ---- A command, after its files

@@ -10,9 +10,10 @@ use Rattle.ak_outside.specs.Causes.{Rose}
 use Rattle.ak_top.specs.Inputs.{limit, image_in, signers_in, moves_in, inputs_in, where_well, asked_in}
 use Rattle.ak_top.proofs.FileReads.{due_err, value_is, due_then}
 use Rattle.ak_top.specs.Reads.{IsDue, CountsAt, CountsBy, is_long, is_foreign, is_too_long, AskedAt, AsksFor, AsksFront, AsksBy, AsksUpTo, ReadsFile, Reads}
-use Rattle.ak_top.specs.Seen.{FilesState, Contents, IsSeen, files_of}
+use Rattle.ak_top.specs.Seen.{FilesState, Contents, IsSeen}
 use Rattle.ak_top.specs.Words.{Names, Command, Run, Measure}
 use Rattle.ak_top.specs.declared.inputs.Inputs.{Inputs}
+use Rattle.ak_top.specs.declared.trouble.Place.{Place}
 use Rattle.ak_top.specs.declared.trouble.Trouble.{Trouble}
 use Rattle.ak_top.specs.declared.trouble.Trouble.TheVariants.{Usage, ReadFailed, TooLong, ImageRefused, SignersRefused, ScriptRefused, UnknownSigner, NotSigned, WriteFailed, OutOfMemory}
 
@@ -69,15 +70,15 @@ within {A} {said} {name} {b} {c} {given} a d h r k = record {
 
 -- a name after others, up to a trouble
 pub asks_up_to : (trouble : Trouble) (command : Option Command) (seen : Contents) (asked asked' front : List (List ℕ)) (name : List ℕ) (rest : List (List ℕ)) →
-    front ++ name ∷ rest ≡ files_of command → (asked_in command seen ≡ front ++ name ∷ []) ⊎ (trouble ≡ OutOfMemory) →
+    asked_in command seen ≡ front ++ name ∷ rest → (rest ≡ []) ⊎ (trouble ≡ OutOfMemory) →
     AskedAt trouble name (asked ++ front) asked' → AsksUpTo trouble command seen asked asked'
-asks_up_to OutOfMemory command seen asked asked' front name rest whole due (inl e) =
-    record { front = front ++ name ∷ []; rest = rest; whole = append_assoc front (name ∷ []) rest ∙ whole; more = e ∙ append_assoc asked front (name ∷ []) }
-asks_up_to OutOfMemory command seen asked asked' front name rest whole due (inr e) =
-    record { front = front; rest = name ∷ rest; whole = whole; more = e }
-asks_up_to _ command seen asked asked' front name rest whole (inl is) e =
-    e ∙ append_assoc asked front (name ∷ []) ∙ ap (λ names. asked ++ names) (sym is)
-asks_up_to _ command seen asked asked' front name rest whole (inr is) e = absurd (cc)
+asks_up_to OutOfMemory command seen asked asked' front name rest due last (inl e) =
+    record { front = front ++ name ∷ []; rest = rest; whole = append_assoc front (name ∷ []) rest ∙ sym due; more = e ∙ append_assoc asked front (name ∷ []) }
+asks_up_to OutOfMemory command seen asked asked' front name rest due last (inr e) =
+    record { front = front; rest = name ∷ rest; whole = sym due; more = e }
+asks_up_to _ command seen asked asked' front name rest due (inl none) e =
+    e ∙ append_assoc asked front (name ∷ []) ∙ ap (λ names. asked ++ names) (sym (due ∙ ap (λ rest. front ++ name ∷ rest) none))
+asks_up_to _ command seen asked asked' front name rest due (inr is) e = absurd (cc)
 
 -- where a file was accepted, the next names were due, and else none
 after_value : {A : Type 0} (wanted : Result A Trouble) (x : A) (names : List (List ℕ)) → IsDue wanted (Ok x) → where_well wanted names ≡ names
@@ -114,10 +115,8 @@ module _ (names : Names) (files files' : FilesState) where
       (IsTrue files.tells → AskedAt trouble names.image files.asked files'.asked) → Reads inputs_in (Run names) files files' (Err trouble)
   image_ends trouble r counts long own asked =
       let seen : Contents = record { image = r.seen; signers = files.content names.signers; script = files.content names.script } in
-      let rest : List (List ℕ) = names.signers ∷ names.script ∷ [] in
-      let due : (asked_in run seen ≡ names.image ∷ []) ⊎ (trouble ≡ OutOfMemory) =
-      elim (after_trouble (image_in r.seen) trouble (names.signers ∷ where_well (signers_in (files.content names.signers)) (names.script ∷ [])) r.due)
-      [ inl e ↦ inl (ap (λ rest. names.image ∷ rest) e) | inr e ↦ inr e ] in
+      let more : List (List ℕ) = names.signers ∷ where_well (signers_in seen.signers) (names.script ∷ []) in
+      let last = after_trouble (image_in r.seen) trouble more r.due in
       record {
         seen = seen;
         sees = λ t. record { image = r.sees t; signers = inl refl; script = inl refl };
@@ -125,7 +124,7 @@ module _ (names : Names) (files files' : FilesState) where
         counts = counts;
         long = long;
         own = own;
-        asked = λ t. asks_up_to trouble run seen files.asked files'.asked [] names.image rest refl due (subst (λ all. AskedAt trouble names.image all files'.asked) (sym (append-nil files.asked)) (asked t));
+        asked = λ t. asks_up_to trouble run seen files.asked files'.asked [] names.image (where_well (image_in r.seen) more) refl last (subst (λ all. AskedAt trouble names.image all files'.asked) (sym (append-nil files.asked)) (asked t));
       }
 
   -- the signers' file ends it
@@ -133,9 +132,9 @@ module _ (names : Names) (files files' : FilesState) where
       (IsTrue files.tells → AskedAt trouble names.signers (files.asked ++ names.image ∷ []) files'.asked) → Reads inputs_in (Run names) files files' (Err trouble)
   signers_end image trouble r s counts long own asked =
       let seen : Contents = record { image = r.seen; signers = s.seen; script = files.content names.script } in
-      let due : (asked_in run seen ≡ names.image ∷ names.signers ∷ []) ⊎ (trouble ≡ OutOfMemory) =
-      elim (after_trouble (signers_in s.seen) trouble (names.script ∷ []) s.due)
-      [ inl e ↦ inl (ap (λ rest. names.image ∷ rest) (after_value (image_in r.seen) image _ r.due ∙ ap (λ rest. names.signers ∷ rest) e)) | inr e ↦ inr e ] in
+      let more : List (List ℕ) = where_well (signers_in s.seen) (names.script ∷ []) in
+      let due : asked_in run seen ≡ names.image ∷ names.signers ∷ more = ap (λ rest. names.image ∷ rest) (after_value (image_in r.seen) image _ r.due) in
+      let last = after_trouble (signers_in s.seen) trouble (names.script ∷ []) s.due in
       record {
         seen = seen;
         sees = λ t. record { image = r.sees t; signers = s.sees t; script = inl refl };
@@ -143,7 +142,7 @@ module _ (names : Names) (files files' : FilesState) where
         counts = counts;
         long = long;
         own = own;
-        asked = λ t. asks_up_to trouble run seen files.asked files'.asked (names.image ∷ []) names.signers (names.script ∷ []) refl due (asked t);
+        asked = λ t. asks_up_to trouble run seen files.asked files'.asked (names.image ∷ []) names.signers more due last (asked t);
       }
 
   -- the script's file ends it
@@ -162,7 +161,7 @@ module _ (names : Names) (files files' : FilesState) where
         counts = counts;
         long = long;
         own = own;
-        asked = λ t. asks_up_to trouble run seen files.asked files'.asked (names.image ∷ names.signers ∷ []) names.script [] refl (inl due) (asked t);
+        asked = λ t. asks_up_to trouble run seen files.asked files'.asked (names.image ∷ names.signers ∷ []) names.script [] due (inl refl) (asked t);
       }
 
   -- all was read

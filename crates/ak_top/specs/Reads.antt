@@ -2,7 +2,7 @@
 use Rattle.std.specs.Prelude.{◌≡◌, ◌⊎◌, ℕ, Bool, true, false, IsTrue, List, [], ◌∷◌, ◌++◌, Option, Some, Result, Ok, Err, nat_lt}
 use Rattle.ak_outside.specs.Causes.{one_more}
 use Rattle.ak_top.specs.Words.{Command}
-use Rattle.ak_top.specs.Seen.{FilesState, Contents, contents_of, files_of, IsSeen, AreSeen}
+use Rattle.ak_top.specs.Seen.{FilesState, Contents, contents_of, IsSeen, AreSeen}
 use Rattle.ak_top.specs.Inputs.{limit, asked_in}
 use Rattle.ak_top.specs.declared.trouble.Trouble.{Trouble}
 use Rattle.ak_top.specs.declared.trouble.Trouble.TheVariants.{Usage, ReadFailed, TooLong, WriteFailed, OutOfMemory}
@@ -73,20 +73,20 @@ pub record ReadsFile {A : Type 0} (said : Option (List ℕ) → Result A Trouble
 
 -- ---- A command's files
 
--- the first of a command's names were asked for, and no others
-pub record AsksFront (command : Option Command) (asked asked' : List (List ℕ)) : Type 0 where
+-- the first of the names that were due were asked for, and no others
+pub record AsksFront (due asked asked' : List (List ℕ)) : Type 0 where
   pub front : List (List ℕ)
   pub rest : List (List ℕ)
-  pub whole : front ++ rest ≡ files_of command
+  pub whole : front ++ rest ≡ due
   pub more : asked' ≡ asked ++ front
 
 -- the names that were due were asked for
 abbrev pub AsksDue : Option Command → Contents → List (List ℕ) → List (List ℕ) → Type 0
 AsksDue command seen asked asked' = asked' ≡ asked ++ asked_in command seen
 
--- the same up to a trouble; where memory ran out, only the first of the command's
+-- the same up to a trouble; where memory ran out, perhaps only the first of them
 abbrev pub AsksUpTo : Trouble → Option Command → Contents → List (List ℕ) → List (List ℕ) → Type 0
-AsksUpTo OutOfMemory command seen asked asked' = AsksFront command asked asked'
+AsksUpTo OutOfMemory command seen asked asked' = AsksFront (asked_in command seen) asked asked'
 AsksUpTo _ command seen asked asked' = AsksDue command seen asked asked'
 
 abbrev pub AsksBy : {A : Type 0} → Result A Trouble → Option Command → Contents → List (List ℕ) → List (List ℕ) → Type 0

@@ -1,5 +1,5 @@
 -- Files and sinks at a moment, and what a command sees of its files.
-use Rattle.std.specs.Prelude.{◌≡◌, ℕ, ◌⊎◌, Bool, List, [], ◌∷◌, Option, Some, None}
+use Rattle.std.specs.Prelude.{◌≡◌, ℕ, ◌⊎◌, Bool, List, Option, Some, None}
 use Rattle.ak_outside.specs.Causes.{Rose}
 use Rattle.ak_top.specs.Words.{Names, Command, Run, Measure}
 
@@ -24,12 +24,6 @@ abbrev pub sink_at : {S : Type 0} → (S → Option (List ℕ)) → (S → ℕ) 
 sink_at taken faults sink = record { taken = taken sink; faults = faults sink }
 
 -- ---- A command's files
-
--- the names of a command's files, in the order in which it asks for them
-abbrev pub files_of : Option Command → List (List ℕ)
-files_of None = []
-files_of (Some (Run names)) = names.image ∷ names.signers ∷ names.script ∷ []
-files_of (Some (Measure image)) = image ∷ []
 
 -- the bytes of each of a command's files, where it has the file and its name holds some
 pub record Contents : Type 0 where
