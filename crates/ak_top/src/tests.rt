@@ -1,155 +1,117 @@
-// The program over files and sinks in memory, case by case. Each case is a text that is played again:
+// The program over files and sinks in memory, case by case. A case is a text: what is given, and then what comes of it.
 //
 //     $ run A lab s          the words
 //     | eenter 0 0           a line of the script `s`
-//     % read 2               a fault, or a long file
-//     = 0                    the status
-//     > autarky 1            a line that `out` took; a backslash stands where it lacks its newline
-//     ! write failed         a line that `err` took
+//     read 2                 the second read fails; so `write 2` of `out`, and `tell 2` of `err`
+//     long s                 the file `s` has one byte too many; `longest s`: it has as many as it may; so `many` and `most` of moves
+//     > autarky 1            what `out` took, up to the mark of the next line
+//     ! write failed         what `err` took, up to that of the next
+//     = 6                    the status
 use crate::autarky;
 use ak_outside::{MemFiles, MemSink};
 use std::alloc::Global;
-use std::process::Abort;
 use std::test::Fail;
 
 mod cases;
 mod files;
 
-/// The call's objects.
+/// What a call is given.
 #[derive(Drop)]
-struct Outside {
+struct Given {
+    words: Vec<String>,
+    script: String,
     files: MemFiles,
     out: MemSink,
     err: MemSink,
 }
 
-/// A sink with room for many bytes.
-fn large_sink(alloc: Global) -> Result<MemSink, Fail> {
-    let mut sink = MemSink::new(alloc);
-    sink.room(10_000)?;
-    Ok(sink)
-}
-
-impl Outside {
-    fn new(alloc: Global) -> Result<Outside, Fail> {
-        Ok(Outside {
-            files: files::all(alloc)?,
-            out: large_sink(alloc)?,
-            err: large_sink(alloc)?,
-        })
+impl Given {
+    /// What these lines give, beside the files of all cases and sinks with room.
+    fn new(alloc: Global, lines: &str) -> Result<Given, Fail> {
+        let mut given = Given {
+            words: Vec::new(alloc),
+            script: String::new(alloc),
+            files: MemFiles::new(alloc),
+            out: MemSink::new(alloc),
+            err: MemSink::new(alloc),
+        };
+        files::put_all(alloc, &mut given.files)?;
+        given.out.room(10_000)?;
+        given.err.room(10_000)?;
+        for line in lines.lines() {
+            given.take(alloc, line)?;
+        }
+        Ok(given)
     }
 
-    /// Makes a call fail, a file too long, or a script of many lines.
-    fn spoil(&mut self, alloc: Global, what: &str) -> Result<(), Fail> {
-        let Some((kind, rest)) = what.split_once(' ') else {
-            return Ok(());
-        };
-        match kind {
-            "read" => self.files.fail_at(rest.parse::<u32>()?)?,
-            "write" => self.out.fail_at(rest.parse::<u32>()?)?,
-            "tell" => self.err.fail_at(rest.parse::<u32>()?)?,
-            "long" => self.files.put(rest, &long_file(alloc, 8_388_609)?)?,
-            "longest" => self.files.put(rest, &long_file(alloc, 8_388_608)?)?,
-            "most" => self.files.put(rest, &reads(alloc, 20_000)?)?,
-            _ => self.files.put(rest, &reads(alloc, 20_001)?)?,
+    /// Takes a line of a case.
+    fn take(&mut self, alloc: Global, line: &str) -> Result<(), Fail> {
+        match line.split_once(' ') {
+            Some(("$", words)) => {
+                for word in words.split(' ') {
+                    self.words.push(String::from_str(alloc, word)?)?;
+                }
+            }
+            Some(("|", line)) => {
+                self.script.push_str(line)?;
+                self.script.push_str("\n")?;
+                self.files.put("s", self.script.as_bytes())?;
+            }
+            Some(("read", call)) => self.files.fail_at(call.parse::<u32>()?)?,
+            Some(("write", call)) => self.out.fail_at(call.parse::<u32>()?)?,
+            Some(("tell", call)) => self.err.fail_at(call.parse::<u32>()?)?,
+            Some(("longest", name)) => self.files.put(name, &repeated(alloc, "#", 8_388_608)?)?,
+            Some(("long", name)) => self.files.put(name, &repeated(alloc, "#", 8_388_609)?)?,
+            Some(("most", name)) => self
+                .files
+                .put(name, &repeated(alloc, "readpte 0\n", 20_000)?)?,
+            Some(("many", name)) => self
+                .files
+                .put(name, &repeated(alloc, "readpte 0\n", 20_001)?)?,
+            _ => return Err(Fail::new("a line without a mark")),
         }
         Ok(())
     }
+
+    /// Makes the call, and tells what came of it.
+    fn play(&mut self, alloc: Global) -> Result<String, Fail> {
+        let status = autarky(
+            alloc,
+            &self.words,
+            &mut self.files,
+            &mut self.out,
+            &mut self.err,
+        );
+        let report = str::from_utf8(self.out.taken())?;
+        let told = str::from_utf8(self.err.taken())?;
+        let text = format!(in alloc; "{report}! {told}= {status}")?;
+        Ok(text)
+    }
 }
 
-/// So many bytes of one comment.
-fn long_file(alloc: Global, length: usize) -> Result<Vec<u8>, Fail> {
+/// This piece so many times.
+fn repeated(alloc: Global, piece: &str, times: usize) -> Result<Vec<u8>, Fail> {
     let mut bytes = Vec::new(alloc);
-    for _byte in 0..length {
-        bytes.push(b'#')?;
+    for _ in 0..times {
+        bytes.extend_from_slice(piece.as_bytes())?;
     }
     Ok(bytes)
 }
 
-/// A script of so many moves.
-fn reads(alloc: Global, moves: usize) -> Result<Vec<u8>, Fail> {
-    let mut bytes = Vec::new(alloc);
-    for _line in 0..moves {
-        bytes.extend_from_slice(b"readpte 0\n")?;
-    }
-    Ok(bytes)
+/// What comes of a call that is given these lines.
+fn outcome(alloc: Global, lines: &str) -> Result<String, Fail> {
+    let mut given = Given::new(alloc, lines)?;
+    given.play(alloc)
 }
 
-/// Adds what a sink took, each line after a mark.
-fn push_lines(text: &mut String, mark: &str, taken: &[u8]) -> Result<(), Fail> {
-    for line in str::from_utf8(taken)?.split_inclusive('\n') {
-        text.push_str(mark)?;
-        text.push_str(line)?;
-        if !line.ends_with('\n') {
-            text.push_str("\\\n")?;
-        }
-    }
-    Ok(())
-}
-
-/// Plays a case again: its text, with what the program did.
-fn played(alloc: Global, case: &str) -> Result<String, Fail> {
-    let mut outside = Outside::new(alloc)?;
-    let mut words = Vec::new(alloc);
-    let mut script = String::new(alloc);
-    let mut text = String::new(alloc);
-    for line in case.lines() {
-        let Some((mark, rest)) = line.split_once(' ') else {
-            return Err(Fail::new("no mark"));
+#[test]
+fn each_case_comes_out(rt: HostRuntime) -> Result<(), Fail> {
+    for case in cases::CASES.split("\n\n") {
+        let Some((lines, wanted)) = case.split_once("\n> ") else {
+            return Err(Fail::new("a case without an outcome"));
         };
-        match mark {
-            "$" => {
-                for word in rest.split(' ') {
-                    words.push(String::from_str(alloc, word)?)?;
-                }
-            }
-            "|" => {
-                script.push_str(rest)?;
-                script.push_str("\n")?;
-                outside.files.put("s", script.as_bytes())?;
-            }
-            "%" => outside.spoil(alloc, rest)?,
-            _ => continue,
-        }
-        writeln!(text, "{line}")?;
-    }
-    let Outside {
-        mut files,
-        mut out,
-        mut err,
-    } = outside;
-    let status = autarky(alloc, &words, &mut files, &mut out, &mut err);
-    writeln!(text, "= {status}")?;
-    push_lines(&mut text, "> ", out.taken())?;
-    push_lines(&mut text, "! ", err.taken())?;
-    Ok(text)
-}
-
-/// Each case, between empty lines, comes to what its text says.
-fn play_all(rt: &impl Abort, alloc: Global, cases: &str) -> Result<(), Fail> {
-    for case in cases.split("\n\n") {
-        let text = played(alloc, case)?;
-        assert_eq!(rt; text.trim_end(), case.trim_end());
+        let text = outcome(rt.alloc(), lines)?;
+        assert_eq!(rt; text.as_str(), wanted);
     }
     Ok(())
-}
-
-#[test]
-fn runs(rt: HostRuntime) -> Result<(), Fail> {
-    play_all(&rt, rt.alloc(), cases::RUNS)
-}
-
-#[test]
-fn remaps(rt: HostRuntime) -> Result<(), Fail> {
-    play_all(&rt, rt.alloc(), cases::REMAPS)
-}
-
-#[test]
-fn refusals(rt: HostRuntime) -> Result<(), Fail> {
-    play_all(&rt, rt.alloc(), cases::REFUSALS)
-}
-
-#[test]
-fn faults(rt: HostRuntime) -> Result<(), Fail> {
-    play_all(&rt, rt.alloc(), cases::FAULTS)
 }
