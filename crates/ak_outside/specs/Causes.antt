@@ -1,4 +1,4 @@
--- A fault of the outside is answered exactly where the object's count of faults rose.
+-- A fault of the outside is counted by the call that answers it.
 use Rattle.std.specs.Prelude.{ℕ, ◌+◌, ◌-◌, ◌^◌, ◌≡◌, ◌≤◌, min, max, Result, Ok, Err}
 
 -- one more, in a count of 64 bits that stays where it ends

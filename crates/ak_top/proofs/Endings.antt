@@ -1,15 +1,14 @@
 -- How a command ends, by what its steps say.
-use Rattle.std.proofs.Common.{◌≡◌, ℕ, false, true, List, [], ◌∷◌, ◌++◌, refl, sym, ◌∙◌, ap, subst, inl, inr, ◌⊎◌}
+use Rattle.std.proofs.Common.{◌≡◌, ℕ, false, true, List, [], ◌++◌, refl, sym, ◌∙◌, ap, subst, inl, inr, ◌⊎◌}
 use Rattle.std.proofs.lemmas.List.{append-nil}
-use Rattle.std.specs.Prelude.{Bool, IsTrue, Option, Some, None, Result, Ok, Err, not, if◌then◌else◌}
+use Rattle.std.specs.Prelude.{Bool, Some, Result, Ok, Err, not, if◌then◌else◌}
 use Rattle.ak_core.specs.Journal.{Journal}
 use Rattle.ak_measure.specs.Signers.{knows, allows}
 use Rattle.ak_measure.specs.Stages.{◌>>=◌}
 use Rattle.ak_image.specs.Image.{Image}
-use Rattle.ak_top.specs.Ends.{digest_text, IsTextOf, Writes, WritesFront, Stops, EndsAt, Ends, Does, WritesText, Runs}
+use Rattle.ak_top.specs.Ends.{digest_text, IsTextOf, Ends, Does, WritesText, Runs}
 use Rattle.ak_top.specs.Inputs.{Task, Report, Digest, image_in, inputs_in, signed, task_in, asked_in}
-use Rattle.ak_top.specs.Journals.{IsJournalOf}
-use Rattle.ak_top.specs.Reads.{IsDue, CountsBy, is_foreign, is_too_long, AsksFront, AsksBy, AsksUpTo, ReadsFile, Reads}
+use Rattle.ak_top.specs.Reads.{IsDue, CountsBy, is_foreign, is_too_long, AsksBy, ReadsFile, Reads}
 use Rattle.ak_top.specs.Report.{report_of}
 use Rattle.ak_top.specs.Seen.{FilesState, SinkState, Contents}
 use Rattle.ak_image.specs.Built.{digest_of}
@@ -17,8 +16,8 @@ use Rattle.ak_top.specs.Words.{Names, Command, Run, Measure}
 use Rattle.ak_top.specs.declared.inputs.Inputs.{Inputs}
 use Rattle.ak_top.specs.declared.trouble.Place.{Place}
 use Rattle.ak_top.specs.declared.trouble.Trouble.{Trouble}
-use Rattle.ak_top.specs.declared.trouble.Trouble.TheVariants.{Usage, ReadFailed, TooLong, ImageRefused, SignersRefused, ScriptRefused, UnknownSigner, NotSigned, WriteFailed, OutOfMemory}
-use Rattle.ak_top.proofs.FileReads.{due_err, value_is, due_then}
+use Rattle.ak_top.specs.declared.trouble.Trouble.TheVariants.{Usage, ReadFailed, TooLong, UnknownSigner, NotSigned, WriteFailed, OutOfMemory}
+use Rattle.ak_top.proofs.FileReads.{due_err, value_is}
 use Rattle.ak_top.proofs.InputReads.{image_read}
 
 -- ---- How a text ends a command

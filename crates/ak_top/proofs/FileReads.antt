@@ -1,9 +1,9 @@
 -- One file is read, and what it says.
-use Rattle.std.proofs.Common.{◌≡◌, ◌≢◌, ℕ, ◌<◌, ◌≤◌, List, [], ◌∷◌, ◌++◌, length, refl, sym, ◌∙◌, ap, subst, inl, inr, arith, Vec, Global}
+use Rattle.std.proofs.Common.{◌≡◌, ◌≢◌, ℕ, ◌<◌, ◌≤◌, List, [], ◌∷◌, ◌++◌, length, refl, sym, ◌∙◌, ap, inl, inr, arith, Vec, Global}
 use Rattle.std.proofs.lemmas.Bool.{ltb-true, ltb-false}
 use Rattle.std.proofs.lemmas.Bool.Decides.{nat_tests}
 use Rattle.std.proofs.lemmas.List.{length-replicate}
-use Rattle.std.specs.Prelude.{Bool, true, false, IsTrue, IfOk, Option, Some, None, Result, Ok, Err, nat_lt, nat_le, replicate, if◌then◌else◌}
+use Rattle.std.specs.Prelude.{Bool, true, false, IsTrue, IfOk, Option, Some, None, Result, Ok, Err, nat_lt, nat_le, replicate}
 use Rattle.std.specs.Result.{result_map_both}
 use Rattle.ak_measure.specs.Stages.{◌>>=◌}
 use Rattle.ak_core.specs.declared.moves.Move.{Move}
@@ -21,12 +21,12 @@ use Rattle.ak_outside.specs.Reads.{Asks, CountsRead, Hands, held_length}
 use Rattle.ak_outside.specs.declared.files.FilesFault.{FilesFault}
 use Rattle.ak_outside.specs.declared.files.FilesFault.TheVariants as fault
 use Rattle.ak_top.specs.Inputs.{limit, or_trouble, script_trouble, bytes_in}
-use Rattle.ak_top.specs.Reads.{IsDue, is_long, is_too_long, is_of_others, CountsBy, AskedAt, AsksFor, ReadsFile}
+use Rattle.ak_top.specs.Reads.{IsDue, is_too_long, is_of_others, CountsBy, AsksFor, ReadsFile}
 use Rattle.ak_top.specs.Seen.{FilesState}
 use Rattle.ak_top.specs.Trouble.{trouble_of_read, trouble_of_image, trouble_of_signers, trouble_of_script}
 use Rattle.ak_top.specs.declared.trouble.Place.{Place}
 use Rattle.ak_top.specs.declared.trouble.Trouble.{Trouble}
-use Rattle.ak_top.specs.declared.trouble.Trouble.TheVariants.{Usage, ReadFailed, TooLong, ImageRefused, SignersRefused, ScriptRefused, UnknownSigner, NotSigned, WriteFailed, OutOfMemory}
+use Rattle.ak_top.specs.declared.trouble.Trouble.TheVariants.{Usage, ReadFailed, TooLong, ImageRefused, SignersRefused, WriteFailed, OutOfMemory}
 
 -- ---- The bytes of a file
 

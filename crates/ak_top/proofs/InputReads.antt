@@ -9,13 +9,12 @@ use Rattle.ak_image.specs.Image.{Image}
 use Rattle.ak_outside.specs.Causes.{Rose}
 use Rattle.ak_top.specs.Inputs.{limit, image_in, signers_in, moves_in, inputs_in, where_well, asked_in}
 use Rattle.ak_top.proofs.FileReads.{due_err, value_is, due_then}
-use Rattle.ak_top.specs.Reads.{IsDue, CountsAt, CountsBy, is_long, is_foreign, is_too_long, AskedAt, AsksFor, AsksFront, AsksBy, AsksUpTo, ReadsFile, Reads}
+use Rattle.ak_top.specs.Reads.{IsDue, CountsAt, CountsBy, is_long, is_foreign, is_too_long, AskedAt, AsksFor, AsksBy, AsksUpTo, ReadsFile, Reads}
 use Rattle.ak_top.specs.Seen.{FilesState, Contents, IsSeen}
 use Rattle.ak_top.specs.Words.{Names, Command, Run, Measure}
 use Rattle.ak_top.specs.declared.inputs.Inputs.{Inputs}
-use Rattle.ak_top.specs.declared.trouble.Place.{Place}
 use Rattle.ak_top.specs.declared.trouble.Trouble.{Trouble}
-use Rattle.ak_top.specs.declared.trouble.Trouble.TheVariants.{Usage, ReadFailed, TooLong, ImageRefused, SignersRefused, ScriptRefused, UnknownSigner, NotSigned, WriteFailed, OutOfMemory}
+use Rattle.ak_top.specs.declared.trouble.Trouble.TheVariants.{ReadFailed, OutOfMemory}
 
 -- ---- A file, in a longer reading
 

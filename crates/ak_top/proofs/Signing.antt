@@ -1,18 +1,17 @@
 -- A run's enclave is built where its image is signed, and its script's moves are served there.
-use Rattle.std.proofs.Common.{◌≡◌, ℕ, List, [], ◌∷◌, refl, sym, ◌∙◌, ap, arith, Bool, true, false}
+use Rattle.std.proofs.Common.{◌≡◌, ℕ, List, [], ◌∷◌, refl, arith, Bool, true, false}
 use Rattle.std.proofs.lemmas.Bool.Decides.{nat_tests}
-use Rattle.std.specs.Prelude.{IsTrue, Result, Ok, Err, ◌&&◌, nat_le, not, if◌then◌else◌}
+use Rattle.std.specs.Prelude.{IsTrue, Ok, Err, ◌&&◌, nat_le, not, if◌then◌else◌}
 use Rattle.std.specs.List.{list_all}
 use Rattle.ak_core.specs.Layout.{Layout}
 use Rattle.ak_core.specs.declared.moves.Move.{Move}
-use Rattle.ak_core.specs.declared.moves.Move.TheVariants.{SetPte, ReadPte, Eblock, Etrack, Ewb, Eldu, Eldb, Eremove, Epa, Discard, Eenter, Eresume, Run, Interrupt}
+use Rattle.ak_core.specs.declared.moves.Move.TheVariants.{SetPte, ReadPte, Eenter, Run}
 use Rattle.ak_image.specs.Built.{digest_of}
 use Rattle.ak_machine.specs.Served.{is_first_or_none, is_served}
 use Rattle.ak_measure.specs.Signers.{knows, allows}
 use Rattle.ak_script.specs.Line.{is_spelled}
 use Rattle.ak_top.specs.Inputs.{signed}
 use Rattle.ak_top.specs.declared.inputs.Inputs.{Inputs}
-use Rattle.ak_top.specs.declared.trouble.Trouble.{Trouble}
 use Rattle.ak_top.specs.declared.trouble.Trouble.TheVariants.{UnknownSigner, NotSigned}
 
 -- ---- The signer

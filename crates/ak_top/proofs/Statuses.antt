@@ -1,19 +1,19 @@
 -- What each status says, by how the call ended.
-use Rattle.std.proofs.Common.{◌≡◌, ℕ, ◌<◌, ◌≤◌, true, false, List, [], ◌++◌, refl, sym, ◌∙◌, ap, subst, inl, inr, ◌⊎◌, arith}
+use Rattle.std.proofs.Common.{◌≡◌, ℕ, ◌<◌, List, refl, sym, ◌∙◌, ap, subst, inl, inr, ◌⊎◌, arith}
 use Rattle.std.proofs.lemmas.Bool.{ltb-true, ltb-false}
 use Rattle.std.proofs.lemmas.List.{append-nil}
-use Rattle.std.specs.Prelude.{IsTrue, Option, Some, None, Result, Ok, Err, nat_lt}
+use Rattle.std.specs.Prelude.{Option, Some, None, Result, Ok, Err, nat_lt}
 use Rattle.ak_outside.specs.Causes.{Rose}
-use Rattle.ak_top.specs.Ends.{Ends, EndsAt, Does}
+use Rattle.ak_top.specs.Ends.{Ends, Does}
 use Rattle.ak_top.specs.Inputs.{limit, Task, task_in}
 use Rattle.ak_top.specs.Reads.{CountsBy, is_too_long}
-use Rattle.ak_top.specs.Seen.{FilesState, SinkState, Contents, contents_of, IsSeen, AreSeen}
+use Rattle.ak_top.specs.Seen.{FilesState, SinkState, Contents, IsSeen, AreSeen}
 use Rattle.ak_top.specs.Told.{Told}
 use Rattle.ak_top.specs.TopCall.{status_by, Tells, Serves}
-use Rattle.ak_top.specs.Trouble.{status_of, line_of}
+use Rattle.ak_top.specs.Trouble.{line_of}
 use Rattle.ak_top.specs.Words.{Command}
 use Rattle.ak_top.specs.declared.trouble.Trouble.{Trouble}
-use Rattle.ak_top.specs.declared.trouble.Trouble.TheVariants.{Usage, ReadFailed, TooLong, ImageRefused, SignersRefused, ScriptRefused, UnknownSigner, NotSigned, WriteFailed, OutOfMemory}
+use Rattle.ak_top.specs.declared.trouble.Trouble.TheVariants.{Usage, ReadFailed, TooLong, WriteFailed, OutOfMemory}
 
 -- ---- Without a command
 

@@ -1,5 +1,5 @@
 -- How a command ends: with the text that it was to write, or with a trouble.
-use Rattle.std.specs.Prelude.{◌≡◌, ℕ, ◌++◌, ◌⊎◌, IsTrue, List, Option, Some, Result, Ok, Err, codes, nat_lt}
+use Rattle.std.specs.Prelude.{◌≡◌, ℕ, ◌++◌, ◌⊎◌, IsTrue, List, Some, Result, Ok, Err, codes, nat_lt}
 use Rattle.hex.specs.Hex.{encode_lower}
 use Rattle.ak_core.specs.Journal.{Journal}
 use Rattle.ak_outside.specs.Causes.{one_more}

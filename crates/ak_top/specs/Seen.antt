@@ -1,7 +1,7 @@
 -- Files and sinks at a moment, and what a command sees of its files.
 use Rattle.std.specs.Prelude.{◌≡◌, ℕ, ◌⊎◌, Bool, List, Option, Some, None}
 use Rattle.ak_outside.specs.Causes.{Rose}
-use Rattle.ak_top.specs.Words.{Names, Command, Run, Measure}
+use Rattle.ak_top.specs.Words.{Command, Run, Measure}
 
 -- files at a moment: what is said of content and names counts only where they tell
 pub record FilesState : Type 0 where

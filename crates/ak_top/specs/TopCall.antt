@@ -3,7 +3,7 @@ use Rattle.std.specs.Prelude.{◌≡◌, ℕ, ◌<◌, ◌⊎◌, ◌↔◌, IsT
 use Rattle.ak_outside.specs.Causes.{Rose}
 use Rattle.ak_top.specs.Words.{Command}
 use Rattle.ak_top.specs.Seen.{FilesState, SinkState, Contents, contents_of, AreSeen}
-use Rattle.ak_top.specs.Inputs.{limit, Task, task_in}
+use Rattle.ak_top.specs.Inputs.{limit, task_in}
 use Rattle.ak_top.specs.Reads.{CountsBy, AsksBy}
 use Rattle.ak_top.specs.Ends.{Ends}
 use Rattle.ak_top.specs.Told.{Told}

@@ -1,4 +1,4 @@
-use Rattle.std.specs.Prelude.{Ok, Err}
+use Rattle.std.specs.Prelude.{Ok}
 use Rattle.ak_image.specs.Reading.{image_of}
 use Rattle.ak_top.specs.Inputs.{or_trouble, image_in}
 use Rattle.ak_top.specs.declared.trouble.Place.TheVariants as place

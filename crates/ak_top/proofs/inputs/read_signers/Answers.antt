@@ -1,4 +1,4 @@
-use Rattle.std.specs.Prelude.{Ok, Err}
+use Rattle.std.specs.Prelude.{Ok}
 use Rattle.ak_measure.specs.Signers.{signers_of}
 use Rattle.ak_top.specs.Inputs.{or_trouble, signers_in}
 use Rattle.ak_top.specs.declared.trouble.Place.TheVariants as place
