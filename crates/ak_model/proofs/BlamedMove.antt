@@ -25,11 +25,12 @@ use Rattle.ak_model.specs.ProgramTurns.{ProgramTurn, turns_of_move, program_turn
 use Rattle.ak_model.specs.Ends.{Runs, runs_of}
 use Rattle.ak_model.specs.Forced.{EachTurn, missed_by, queue_by}
 use Rattle.ak_model.specs.Premises.{MissesFit}
-use Rattle.ak_model.specs.Blame.{before_fault, lost_at, returned_at}
+use Rattle.ak_model.specs.Blame.{past_before_fault, lost_at, returned_at}
+use Rattle.ak_model.specs.MovesBefore.{before_stop, moves_before_fault}
 use Rattle.ak_model.specs.Blamed.{refusal_or, newest_refusal, is_break, LastBroke, FaultStands, BlameStandsAt}
-use Rattle.ak_model.specs.Stopped.{NamedBy, NamesAccess, BreakIsForcedUnkept, BrokenUnkeptBy, BreaksAreForcedUnkept, stop_for, before_stop, IsStop, IsStopped}
+use Rattle.ak_model.specs.Stopped.{NamedBy, NamesAccess, BreakIsForcedUnkept, BrokenUnkeptBy, BreaksAreForcedUnkept, stop_for, IsStop, IsStopped}
 use Rattle.ak_model.specs.Honours.{is_mapped, cluster_is_mapped, runtime_pages, keeps_mapped, entered_since_ask, is_finish_now, probes_done, fetched_by, keeps_fetched}
-use Rattle.ak_model.specs.BlamedMove.{told_at, IsTold, IsAskedFor, before_stopping, before_faulting, TookAway, LeftUnfetched, IsBlamed, BlamedIn}
+use Rattle.ak_model.specs.BlamedMove.{told_at, IsTold, IsAskedFor, TookAway, LeftUnfetched, IsBlamed, BlamedIn}
 use Rattle.ak_model.specs.Orderly.{ContextFits, ReasonFits, SavedFits, StackFits, IsOwnAccess, is_live, miss_of, oldest_miss, after_miss_if, ServedBy}
 use Rattle.ak_model.specs.Reached.{touches_next}
 use Rattle.std.proofs.lemmas.List.{length-reverse}
@@ -143,7 +144,7 @@ module _ (layout : Layout) (valid : IsValid layout) (tape : List Event) (misses 
   here = trace layout tape stopping
 
   abbrev faulting : List Move
-  faulting = before_faulting layout tape stopping
+  faulting = moves_before_fault layout tape stopping
 
   abbrev fault : Moment
   fault = trace layout tape faulting
@@ -185,10 +186,10 @@ module _ (layout : Layout) (valid : IsValid layout) (tape : List Event) (misses 
       }
 
   -- what no walk found before the last fault, none found before its move
-  lost_then : (t : Touch) → touch_walkable layout (before_fault here.past) t ≡ false → touch_walkable layout fault.past t ≡ false
+  lost_then : (t : Touch) → touch_walkable layout (past_before_fault here.past) t ≡ false → touch_walkable layout fault.past t ≡ false
   lost_then t h = subst (λ past. touch_walkable layout past t ≡ false) (sym (faulting_past layout tape stopping)) h
 
-  place_then : (t : Touch) → lost_at layout (before_fault here.past) t ≡ lost_at layout fault.past t
+  place_then : (t : Touch) → lost_at layout (past_before_fault here.past) t ≡ lost_at layout fault.past t
   place_then t = ap (λ past. lost_at layout past t) (sym (faulting_past layout tape stopping))
 
   -- ---- By the cause
@@ -337,7 +338,7 @@ module _ (layout : Layout) (valid : IsValid layout) (tape : List Event) (misses 
           move = at.move;
           older = at.older;
           stands = above.stands;
-          place = (let x : max (returned_at here.past) (lost_at layout (before_fault here.past) accessed) ≡ returned_at fault.past = omega arith in x ∙ at.place_is);
+          place = (let x : max (returned_at here.past) (lost_at layout (past_before_fault here.past) accessed) ≡ returned_at fault.past = omega arith in x ∙ at.place_is);
           broke = left_at (returned_at fault.past) (Back layout tape) at (omega arith) le (inl at.holds);
         }
     unfetched_by false e =
@@ -352,7 +353,7 @@ module _ (layout : Layout) (valid : IsValid layout) (tape : List Event) (misses 
           move = at.move;
           older = at.older;
           stands = above.stands;
-          place = (let x : max (returned_at here.past) (lost_at layout (before_fault here.past) accessed) ≡ lost_at layout fault.past accessed = omega arith in x ∙ at.place_is);
+          place = (let x : max (returned_at here.past) (lost_at layout (past_before_fault here.past) accessed) ≡ lost_at layout fault.past accessed = omega arith in x ∙ at.place_is);
           broke = left_at (lost_at layout fault.past accessed) (Found layout tape accessed) at (omega arith) (omega arith) (inr at.holds);
         }
 
@@ -368,7 +369,7 @@ module _ (layout : Layout) (valid : IsValid layout) (tape : List Event) (misses 
 
   -- the newest refusal to resume tells of the fault
   step_lost : (t : Touch) → newest_refusal here.control.stack ≡ Some (Faulted t) → is_live here.control.phase ≡ true → touch_walkable layout fault.past t ≡ false
-  step_lost t r live = lost_then t (subst (FaultStands layout (before_fault here.past) (program_turns layout tape stopping)) r (stands.fault live))
+  step_lost t r live = lost_then t (subst (FaultStands layout (past_before_fault here.past) (program_turns layout tape stopping)) r (stands.fault live))
 
   step_known : (t : Touch) → newest_refusal here.control.stack ≡ Some (Faulted t) → is_live here.control.phase ≡ true → (someone_inside layout fault.past ≡ true) × (t.page.0 < pages layout → Unfetched layout fault (returned_at here.past) t)
   step_known t r live = subst (FaultAt layout fault (returned_at here.past) here.control.queue) r (kept.at live)
@@ -402,7 +403,7 @@ module _ (layout : Layout) (valid : IsValid layout) (tape : List Event) (misses 
       let served = broke_served layout (queue_by layout (program_turns layout tape stopping)) here.control.phase here.control.queue here.control.stack orderly.stack r orderly.served in
       sym (broke_queue layout turn older b) ∙ ap (queue_by layout) e ∙ sym served ∙ sym q
 
-  broken_by : (turns : List ProgramTurn) (runs : Runs) (stop : Option Stop) (p : Page) (kind : Kind) → turns ≡ program_turns layout tape stopping → StopSays layout here.past here.control Broken → LastBroke (before_fault here.past) turns → EachTurn (λ turn. λ older. BrokenUnkeptBy layout runs stop turn older turn.event) turns → ((t : Touch) → NamesAccess stop t → t ≡ record { page = p; kind = kind }) → Blamed (Unmapped p kind)
+  broken_by : (turns : List ProgramTurn) (runs : Runs) (stop : Option Stop) (p : Page) (kind : Kind) → turns ≡ program_turns layout tape stopping → StopSays layout here.past here.control Broken → LastBroke (past_before_fault here.past) turns → EachTurn (λ turn. λ older. BrokenUnkeptBy layout runs stop turn older turn.event) turns → ((t : Touch) → NamesAccess stop t → t ≡ record { page = p; kind = kind }) → Blamed (Unmapped p kind)
   broken_by [] runs stop p kind e h last forced named = absurd last
   broken_by (turn ∷ older) runs stop p kind e h last forced named =
       let f = forced_at runs stop turn older turn.event last.1 forced.0 in
@@ -436,39 +437,37 @@ module _ (layout : Layout) where
     moves = reverse journal.moves
 
     abbrev stopping : List Move
-    stopping = before_stopping layout tape moves
+    stopping = before_stop layout tape moves
 
     -- by the cause in the control state, and the stop that it comes to
     pub record StopFound : Type 0 where
       pub blamed : IsBlamed layout tape stopping stop
       pub fewer : length stopping < length moves
 
-    names : (p : Page) (kind : Kind) → stop ≡ stop_for layout (before_stop layout tape moves) (Unmapped p kind) → (t : Touch) → NamesAccess journal.stop t → t ≡ record { page = p; kind = kind }
+    names : (p : Page) (kind : Kind) → stop ≡ stop_for layout (trace layout tape stopping).past (Unmapped p kind) → (t : Touch) → NamesAccess journal.stop t → t ≡ record { page = p; kind = kind }
     names p kind e t h =
         let named : NamedBy (Unmapped p kind) t = subst (λ s. NamedBy s.cause t) e (subst (λ o. NamesAccess o t) is_stop h) in
         let same : (let made : Touch = record { page = t.page; kind = t.kind } in made) ≡ record { page = p; kind = kind } =
         ap (λ x. (let made : Touch = record { page = x; kind = t.kind } in made)) named.0 ∙ ap (λ k. (let made : Touch = record { page = p; kind = k } in made)) named.1 in
         same
 
-    by_cause : (cause : Option Cause) → (trace layout tape moves).control.cause ≡ cause → IsStop layout (before_stop layout tape moves) cause journal.stop → StopFound
+    by_cause : (cause : Option Cause) → (trace layout tape moves).control.cause ≡ cause → IsStop layout (trace layout tape stopping).past cause journal.stop → StopFound
     by_cause None e h = absurd (let x : None ≡ Some stop = sym h ∙ is_stop in cc)
     by_cause (Some (Named cause)) e h =
         let at = stops-after layout valid tape misses moves (Named cause) e in
-        let made : IsBlamed layout tape stopping (stop_for layout (before_stop layout tape moves) cause) =
-        subst (λ past. IsBlamed layout tape stopping (stop_for layout past cause)) at.history (named_blamed layout valid tape misses stopping cause at.says) in
-        let same : stop_for layout (before_stop layout tape moves) cause ≡ stop = let x : Some (stop_for layout (before_stop layout tape moves) cause) ≡ Some stop = sym h ∙ is_stop in cc in
+        let made : IsBlamed layout tape stopping (stop_for layout (trace layout tape stopping).past cause) = named_blamed layout valid tape misses stopping cause at.says in
+        let same : stop_for layout (trace layout tape stopping).past cause ≡ stop = let x : Some (stop_for layout (trace layout tape stopping).past cause) ≡ Some stop = sym h ∙ is_stop in cc in
         record { blamed = subst (IsBlamed layout tape stopping) same made; fewer = at.fewer }
     by_cause (Some Broken) e h =
         let p : Page = h.0 in
         let kind : Kind = h.1 in
         let at = stops-after layout valid tape misses moves Broken e in
-        let same : stop_for layout (before_stop layout tape moves) (Unmapped p kind) ≡ stop = let x : Some (stop_for layout (before_stop layout tape moves) (Unmapped p kind)) ≡ Some stop = sym h.2 ∙ is_stop in cc in
+        let same : stop_for layout (trace layout tape stopping).past (Unmapped p kind) ≡ stop = let x : Some (stop_for layout (trace layout tape stopping).past (Unmapped p kind)) ≡ Some stop = sym h.2 ∙ is_stop in cc in
         let forced = fewer_turns (λ turn. λ older. BrokenUnkeptBy layout (runs_of layout image journal) journal.stop turn older turn.event) tape at.newer stopping
         (subst (λ all. EachTurn (λ turn. λ older. BrokenUnkeptBy layout (runs_of layout image journal) journal.stop turn older turn.event) (program_turns layout tape all)) at.stands breaks.turns_break) in
-        let last = subst (FaultStands layout (before_fault (trace layout tape stopping).past) (program_turns layout tape stopping)) at.says.says.0 ((trace_stands layout tape stopping valid misses).fault at.says.says.1) in
-        let made : IsBlamed layout tape stopping (stop_for layout (before_stop layout tape moves) (Unmapped p kind)) =
-        subst (λ past. IsBlamed layout tape stopping (stop_for layout past (Unmapped p kind))) at.history
-        (broken_by layout valid tape misses stopping (program_turns layout tape stopping) (runs_of layout image journal) journal.stop p kind refl at.says last forced (names p kind (sym same))) in
+        let last = subst (FaultStands layout (past_before_fault (trace layout tape stopping).past) (program_turns layout tape stopping)) at.says.says.0 ((trace_stands layout tape stopping valid misses).fault at.says.says.1) in
+        let made : IsBlamed layout tape stopping (stop_for layout (trace layout tape stopping).past (Unmapped p kind)) =
+        broken_by layout valid tape misses stopping (program_turns layout tape stopping) (runs_of layout image journal) journal.stop p kind refl at.says last forced (names p kind (sym same)) in
         record { blamed = subst (IsBlamed layout tape stopping) same made; fewer = at.fewer }
 
     found : StopFound

@@ -21,7 +21,7 @@ use Rattle.ak_model.specs.Trace.{Moment, step, trace}
 use Rattle.ak_model.specs.ProgramTurns.{ProgramTurn, turns_of_run, turns_of_move, program_turns}
 use Rattle.ak_model.specs.Forced.{queue_by}
 use Rattle.ak_model.specs.Premises.{MissesFit}
-use Rattle.ak_model.specs.Blame.{faults, is_fault, before_fault, resumes, resumed_at}
+use Rattle.ak_model.specs.Blame.{faults, is_fault, past_before_fault, resumes, resumed_at}
 use Rattle.ak_model.specs.Blamed.{refusal_or, newest_refusal, FaultStands, BlameStands, BlameStandsAt}
 use Rattle.ak_model.specs.Orderly.{refuses_by, is_refused, is_live, IsOrderly, OrderlyAfter}
 use Rattle.ak_model.proofs.Placed.{placed}
@@ -44,10 +44,10 @@ passed (Faulted t) o h = absurd (cc)
 
 module _ (layout : Layout) (fit : ClustersFit layout) where
   abbrev After : History → List ProgramTurn → Change → Control → Type 0
-  After past turns c control = BlameStands layout (if faults c then past else before_fault past) (if resumes c then length past + 1 else resumed_at past) turns control
+  After past turns c control = BlameStands layout (if faults c then past else past_before_fault past) (if resumes c then length past + 1 else resumed_at past) turns control
 
   abbrev Before : History → List ProgramTurn → Control → Type 0
-  Before past turns control = BlameStands layout (before_fault past) (resumed_at past) turns control
+  Before past turns control = BlameStands layout (past_before_fault past) (resumed_at past) turns control
 
   module _ (past : History) (turns : List ProgramTurn) (so_far : List ℕ) (control : Control) (orderly : IsOrderly layout so_far (someone_inside layout past) control) (old : Before past turns control) where
     quiet : (c : Change) → IsQuiet layout c → After past turns c control
@@ -80,8 +80,8 @@ module _ (layout : Layout) (fit : ClustersFit layout) where
     resume_by lp [] e p n = record { fault = old.fault; guard = λ h. omega arith }
     resume_by lp (saved ∷ older) e p n = record {
       fault = λ live.
-          let whole : FaultStands layout (before_fault past) turns (newest_refusal (saved ∷ older)) = subst (λ s. FaultStands layout (before_fault past) turns (newest_refusal s)) e (old.fault live) in
-          subst (FaultStands layout (before_fault past) turns) (passed saved.reason (newest_refusal older) (not_refused saved older (refuses_by saved.reason) refl e p n live)) whole;
+          let whole : FaultStands layout (past_before_fault past) turns (newest_refusal (saved ∷ older)) = subst (λ s. FaultStands layout (past_before_fault past) turns (newest_refusal s)) e (old.fault live) in
+          subst (FaultStands layout (past_before_fault past) turns) (passed saved.reason (newest_refusal older) (not_refused saved older (refuses_by saved.reason) refl e p n live)) whole;
       guard = λ h. omega arith;
     }
 
@@ -101,7 +101,7 @@ module _ (layout : Layout) (fit : ClustersFit layout) where
     interrupt_stands lp Ok = interrupt_by lp control.now
     interrupt_stands lp _ = old
 
-  left_after : (past : History) (turns : List ProgramTurn) (lp : ℕ) (exit : Exit) (next : Control) → BlameStands layout (if is_fault exit then past else before_fault past) (resumed_at past) turns next → After past turns (if_left exit (Exits lp exit)) next
+  left_after : (past : History) (turns : List ProgramTurn) (lp : ℕ) (exit : Exit) (next : Control) → BlameStands layout (if is_fault exit then past else past_before_fault past) (resumed_at past) turns next → After past turns (if_left exit (Exits lp exit)) next
   left_after past turns lp Still next h = h
   left_after past turns lp exit next h = h
 
@@ -113,7 +113,7 @@ module _ (layout : Layout) (fit : ClustersFit layout) where
       let someone = is_someone layout past lp (ltb-true lp layout.lps e) d in
       let here = subst (λ b. IsOrderly layout so_far b control) someone orderly in
       let ran = run layout past n control in
-      left_after past (reverse (turns_of_run layout lp past n control) ++ turns) lp ran.exit ran.control (run_stands layout past (resumed_at past) fit lp n (before_fault past) turns so_far control here old)
+      left_after past (reverse (turns_of_run layout lp past n control) ++ turns) lp ran.exit ran.control (run_stands layout past (resumed_at past) fit lp n (past_before_fault past) turns so_far control here old)
 
   step_stands : (turns : List ProgramTurn) (moment : Moment) (m : Move) → ((lp : ℕ) → inside moment.past lp ≡ true → nat_lt lp layout.lps ≡ true) → OrderlyAfter layout turns moment → BlameStandsAt layout turns moment → BlameStandsAt layout (turns_of_move layout moment m ++ turns) (step layout moment m)
   step_stands turns moment (ReadPte p) low orderly old = old

@@ -11,7 +11,8 @@ use Rattle.ak_core.specs.declared.event.StopCause.TheVariants.{Unmapped, Resumed
 use Rattle.ak_core.specs.declared.page.Page.{Page}
 use Rattle.ak_core.specs.declared.page.Kind.{Kind}
 use Rattle.ak_model.specs.Blame.{blame}
-use Rattle.ak_model.specs.Stopped.{before_stop}
+use Rattle.ak_model.specs.Trace.{trace}
+use Rattle.ak_model.specs.MovesBefore.{before_stop}
 use Rattle.ak_core.specs.declared.moves.Exit.{Exit}
 use Rattle.ak_core.specs.declared.moves.Answer.TheVariants.{Ok}
 use Rattle.ak_core.specs.declared.page.Kind.TheVariants.{Read, Write, Exec}
@@ -144,7 +145,8 @@ misblamed_not : Sound jump image_a misblamed → ⊥
 unfolding misblamed
 misblamed_not h =
     let stop = h.stop.stopped in
-    let past = before_stop image_a (Miss 0 0 ∷ Break 2 ∷ []) (reverse (moves_of until_stopped)) in
+    let tape = Miss 0 0 ∷ Break 2 ∷ [] in
+    let past = (trace image_a tape (before_stop image_a tape (reverse (moves_of until_stopped)))).past in
     apart 10 refl (blamed_by (blame image_a past) stop.0 stop.1 stop.2)
 
 -- ---- What is kept

@@ -17,7 +17,7 @@ use Rattle.ak_model.specs.Entering.{entered, resumed_by, interrupted_by, on_ok, 
 use Rattle.ak_model.specs.Trace.{Moment, step}
 use Rattle.ak_model.specs.ProgramTurns.{ProgramTurn, turns_of_run}
 use Rattle.ak_model.specs.Forced.{queue_by}
-use Rattle.ak_model.specs.BlamedMove.{changed}
+use Rattle.ak_model.specs.MovesBefore.{changed}
 use Rattle.ak_model.specs.Orderly.{IsOrderly, TurnIsOrderly, after_turn, OrderlyAfter}
 use Rattle.ak_model.proofs.Someone.{other, is_someone, outside_ok, IsQuiet, quiet_ok, quiet_handle}
 use Rattle.ak_model.proofs.OrderlySteps.{ClustersFit}

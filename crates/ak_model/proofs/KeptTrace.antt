@@ -24,7 +24,8 @@ use Rattle.ak_model.specs.Counted.{saved_count}
 use Rattle.ak_model.specs.Blame.{faults, is_fault, enters_at_one, returned_at, resumes}
 use Rattle.ak_model.specs.Blamed.{newest_refusal, is_guard}
 use Rattle.ak_model.specs.Honours.{entered_since_ask, entered_after, is_finish_now, fetched_by}
-use Rattle.ak_model.specs.BlamedMove.{changed, before_faulting, IsAskedFor}
+use Rattle.ak_model.specs.MovesBefore.{changed, moves_before_fault}
+use Rattle.ak_model.specs.BlamedMove.{IsAskedFor}
 use Rattle.ak_model.specs.Orderly.{ContextFits, FaultFits, StackFits, probed, refuses_by, is_refused, is_live, IsOrderly}
 use Rattle.ak_model.proofs.Someone.{IsQuiet}
 use Rattle.ak_model.proofs.Orderly.{trace_is_orderly}
@@ -52,14 +53,14 @@ module _ (layout : Layout) (tape : List Event) (moves : List Move) (so_far : Lis
 
   abbrev After : Change → Control → Type 0
   After c next =
-      Kept layout (trace layout tape (if faults c then moves else before_faulting layout tape moves))
+      Kept layout (trace layout tape (if faults c then moves else moves_before_fault layout tape moves))
       (if enters_at_one c (saved_count here.past) then is_asked here.control.phase else comes)
       (if resumes c then (cssa here.control == 1) && is_asked here.control.phase else early)
       (entered_after c (entered_since_ask here.past))
       (if enters_at_one c (saved_count here.past) then length here.past + 1 else returned_at here.past) next
 
   abbrev Before : Type 0
-  Before = Kept layout (trace layout tape (before_faulting layout tape moves)) comes early (entered_since_ask here.past) (returned_at here.past) here.control
+  Before = Kept layout (trace layout tape (moves_before_fault layout tape moves)) comes early (entered_since_ask here.past) (returned_at here.past) here.control
 
   module _ (orderly : IsOrderly layout so_far (someone_inside layout here.past) here.control) (counts : saved_count here.past ≡ cssa here.control) (old : Before) where
     quiet : (c : Change) → IsQuiet layout c → After c here.control
@@ -85,9 +86,9 @@ module _ (layout : Layout) (tape : List Event) (moves : List Move) (so_far : Lis
         let two = deep layout here.control.phase here.control.queue here.control.stack t orderly.stack e low in
         ne_eqb (saved_count here.past) 1 (λ one. omega arith)
 
-    enters_at : (r : Option Reason) → newest_refusal here.control.stack ≡ r → FaultAt layout (trace layout tape (before_faulting layout tape moves)) (returned_at here.past) here.control.queue r → FaultAt layout (trace layout tape (before_faulting layout tape moves)) (if saved_count here.past == 1 then length here.past + 1 else returned_at here.past) here.control.queue r
+    enters_at : (r : Option Reason) → newest_refusal here.control.stack ≡ r → FaultAt layout (trace layout tape (moves_before_fault layout tape moves)) (returned_at here.past) here.control.queue r → FaultAt layout (trace layout tape (moves_before_fault layout tape moves)) (if saved_count here.past == 1 then length here.past + 1 else returned_at here.past) here.control.queue r
     enters_at (Some (Faulted t)) e h =
-        (h.0, λ low. subst (λ b. Unfetched layout (trace layout tape (before_faulting layout tape moves)) (if b then length here.past + 1 else returned_at here.past) t) (sym (at_two t e low)) (h.1 low))
+        (h.0, λ low. subst (λ b. Unfetched layout (trace layout tape (moves_before_fault layout tape moves)) (if b then length here.past + 1 else returned_at here.past) t) (sym (at_two t e low)) (h.1 low))
     enters_at (Some Broke) e h = h
     enters_at None e h = tt
     enters_at (Some Interrupted) e h = tt
@@ -115,8 +116,8 @@ module _ (layout : Layout) (tape : List Event) (moves : List Move) (so_far : Lis
     resume_after : (lp : ℕ) (saved : Saved) (rest : List Saved) → is_some here.control.now ≡ false → here.control.pending ≡ false → here.control.stack ≡ saved ∷ rest → After (Resumes lp) (record here.control { stack = rest; now = Some saved.context })
     resume_after lp saved rest n p e = record {
       at = λ live.
-          let whole : FaultAt layout (trace layout tape (before_faulting layout tape moves)) (returned_at here.past) here.control.queue (newest_refusal (saved ∷ rest)) = subst (λ s. FaultAt layout (trace layout tape (before_faulting layout tape moves)) (returned_at here.past) here.control.queue (newest_refusal s)) e (old.at live) in
-          subst (FaultAt layout (trace layout tape (before_faulting layout tape moves)) (returned_at here.past) here.control.queue) (passed saved.reason (newest_refusal rest) (not_refused (refuses_by saved.reason) refl live)) whole;
+          let whole : FaultAt layout (trace layout tape (moves_before_fault layout tape moves)) (returned_at here.past) here.control.queue (newest_refusal (saved ∷ rest)) = subst (λ s. FaultAt layout (trace layout tape (moves_before_fault layout tape moves)) (returned_at here.past) here.control.queue (newest_refusal s)) e (old.at live) in
+          subst (FaultAt layout (trace layout tape (moves_before_fault layout tape moves)) (returned_at here.past) here.control.queue) (passed saved.reason (newest_refusal rest) (not_refused (refuses_by saved.reason) refl live)) whole;
       probing = λ a h. old.probing a (or_right (probes_now here.control.now) _ (subst (λ s. stack_probes s ≡ true) (sym e) h));
       guard = λ a g. lone a g;
     }
@@ -145,10 +146,10 @@ module _ (layout : Layout) (tape : List Event) (moves : List Move) (so_far : Lis
       guard = λ a g. absurd (cc);
     }
 
-    same_at : (next before : Control) → Since here.control before → newest_refusal next.stack ≡ newest_refusal before.stack → next.queue ≡ before.queue → is_live before.phase ≡ true → FaultAt layout (trace layout tape (before_faulting layout tape moves)) (returned_at here.past) next.queue (newest_refusal next.stack)
+    same_at : (next before : Control) → Since here.control before → newest_refusal next.stack ≡ newest_refusal before.stack → next.queue ≡ before.queue → is_live before.phase ≡ true → FaultAt layout (trace layout tape (moves_before_fault layout tape moves)) (returned_at here.past) next.queue (newest_refusal next.stack)
     same_at next before s r q l =
-        subst (λ queue. FaultAt layout (trace layout tape (before_faulting layout tape moves)) (returned_at here.past) queue (newest_refusal next.stack)) (sym (q ∙ s.queue))
-        (subst (FaultAt layout (trace layout tape (before_faulting layout tape moves)) (returned_at here.past) here.control.queue) (sym (r ∙ ap newest_refusal s.stack)) (old.at (s.live l)))
+        subst (λ queue. FaultAt layout (trace layout tape (moves_before_fault layout tape moves)) (returned_at here.past) queue (newest_refusal next.stack)) (sym (q ∙ s.queue))
+        (subst (FaultAt layout (trace layout tape (moves_before_fault layout tape moves)) (returned_at here.past) here.control.queue) (sym (r ∙ ap newest_refusal s.stack)) (old.at (s.live l)))
 
     went_after : (next : Control) → Since here.control next → After Unchanged next
     went_after next s = record {
@@ -161,7 +162,7 @@ module _ (layout : Layout) (tape : List Event) (moves : List Move) (so_far : Lis
 
     abbrev Ran : Exit → Control → Type 0
     Ran exit next =
-        Kept layout (trace layout tape (if is_fault exit then moves else before_faulting layout tape moves)) comes early
+        Kept layout (trace layout tape (if is_fault exit then moves else moves_before_fault layout tape moves)) comes early
         (if is_ask exit then false else entered_since_ask here.past) (returned_at here.past) next
 
     left_after : (lp : ℕ) (exit : Exit) (next : Control) → Ran exit next → After (if_left exit (Exits lp exit)) next
@@ -207,12 +208,12 @@ module _ (layout : Layout) (tape : List Event) (moves : List Move) (so_far : Lis
           let reason = subst (λ phase. FaultFits layout phase s.context s.touch) s.phase all.0.reason in
           subst (FaultAt layout here (returned_at here.past) next.queue) (sym refusal) (h.someone, λ low. unfetched_by s s.context refl context reason low)
 
-      outcome_at : is_live next.phase ≡ true → Outcome layout here.past h.before exit next → FaultAt layout (trace layout tape (if is_fault exit then moves else before_faulting layout tape moves)) (returned_at here.past) next.queue (newest_refusal next.stack)
-      outcome_at live (Same f r q l) = subst (λ b. FaultAt layout (trace layout tape (if b then moves else before_faulting layout tape moves)) (returned_at here.past) next.queue (newest_refusal next.stack)) (sym f) (same_at next h.before h.since r q l)
-      outcome_at live (Mild m) = mild_at layout (trace layout tape (if is_fault exit then moves else before_faulting layout tape moves)) (returned_at here.past) next.queue (newest_refusal next.stack) m
-      outcome_at live (Faults f s) = subst (λ b. FaultAt layout (trace layout tape (if b then moves else before_faulting layout tape moves)) (returned_at here.past) next.queue (newest_refusal next.stack)) (sym f) (fault_at f s)
+      outcome_at : is_live next.phase ≡ true → Outcome layout here.past h.before exit next → FaultAt layout (trace layout tape (if is_fault exit then moves else moves_before_fault layout tape moves)) (returned_at here.past) next.queue (newest_refusal next.stack)
+      outcome_at live (Same f r q l) = subst (λ b. FaultAt layout (trace layout tape (if b then moves else moves_before_fault layout tape moves)) (returned_at here.past) next.queue (newest_refusal next.stack)) (sym f) (same_at next h.before h.since r q l)
+      outcome_at live (Mild m) = mild_at layout (trace layout tape (if is_fault exit then moves else moves_before_fault layout tape moves)) (returned_at here.past) next.queue (newest_refusal next.stack) m
+      outcome_at live (Faults f s) = subst (λ b. FaultAt layout (trace layout tape (if b then moves else moves_before_fault layout tape moves)) (returned_at here.past) next.queue (newest_refusal next.stack)) (sym f) (fault_at f s)
       outcome_at live (Breaks f r q) =
-          subst (λ b. FaultAt layout (trace layout tape (if b then moves else before_faulting layout tape moves)) (returned_at here.past) next.queue (newest_refusal next.stack)) (sym f)
+          subst (λ b. FaultAt layout (trace layout tape (if b then moves else moves_before_fault layout tape moves)) (returned_at here.past) next.queue (newest_refusal next.stack)) (sym f)
           (subst (FaultAt layout here (returned_at here.past) next.queue) (sym r) (h.someone, sym (q ∙ h.since.queue)))
 
       saved_only : has_probing next ≡ true → stack_probes next.stack ≡ true
@@ -256,7 +257,7 @@ module _ (layout : Layout) (tape : List Event) where
 
   abbrev pub KeptAt : List Move → Type 0
   KeptAt moves =
-      Kept layout (trace layout tape (before_faulting layout tape moves)) (came_back moves) (was_early moves)
+      Kept layout (trace layout tape (moves_before_fault layout tape moves)) (came_back moves) (was_early moves)
       (entered_since_ask (trace layout tape moves).past) (returned_at (trace layout tape moves).past) (trace layout tape moves).control
 
   pub trace_kept : IsValid layout → MissesFit layout (queue_at_build layout.build layout) tape → (moves : List Move) → KeptAt moves

@@ -11,9 +11,10 @@ use Rattle.ak_model.specs.Walk.{touch_walkable}
 use Rattle.ak_model.specs.Control.{cssa, is_asked}
 use Rattle.ak_model.specs.Trace.{Moment, trace}
 use Rattle.ak_model.specs.Counted.{saved_count}
-use Rattle.ak_model.specs.Blame.{faults, before_fault, lost_at, enters_at_one, returned_at, resumes, resumed_at}
+use Rattle.ak_model.specs.Blame.{faults, past_before_fault, lost_at, enters_at_one, returned_at, resumes, resumed_at}
 use Rattle.ak_model.specs.Honours.{resumes_early}
-use Rattle.ak_model.specs.BlamedMove.{changed, before_faulting, enters, comes_back, IsLost}
+use Rattle.ak_model.specs.MovesBefore.{changed, moves_before_fault}
+use Rattle.ak_model.specs.BlamedMove.{enters, comes_back, IsLost}
 use Rattle.ak_model.proofs.Losses.{lost_since}
 use Rattle.ak_model.proofs.PresentTrace.{counts_right}
 use Rattle.ak_model.proofs.KeptTrace.{came_back, was_early}
@@ -142,11 +143,11 @@ module _ (layout : Layout) (tape : List Event) where
 
   -- ---- The moves before the last fault
 
-  faulting_by : (m : Move) (moves : List Move) (fault : Bool) → (At (before_faulting layout tape moves)).past ≡ before_fault (At moves).past → (At (if fault then moves else before_faulting layout tape moves)).past ≡ (if fault then (At moves).past else before_fault (At moves).past)
+  faulting_by : (m : Move) (moves : List Move) (fault : Bool) → (At (moves_before_fault layout tape moves)).past ≡ past_before_fault (At moves).past → (At (if fault then moves else moves_before_fault layout tape moves)).past ≡ (if fault then (At moves).past else past_before_fault (At moves).past)
   faulting_by m moves true h = refl
   faulting_by m moves false h = h
 
-  pub faulting_past : (moves : List Move) → (At (before_faulting layout tape moves)).past ≡ before_fault (At moves).past
+  pub faulting_past : (moves : List Move) → (At (moves_before_fault layout tape moves)).past ≡ past_before_fault (At moves).past
   faulting_past [] = refl
   faulting_past (m ∷ moves) = faulting_by m moves (faults (changed layout (At moves) m)) (faulting_past moves)
 
@@ -154,10 +155,10 @@ module _ (layout : Layout) (tape : List Event) where
   abbrev Older : List Move → List Move → Type 0
   Older some all = (newer : List Move) × (all ≡ newer ++ some)
 
-  faulting_in : (m : Move) (moves : List Move) (fault : Bool) → Older (before_faulting layout tape moves) moves → Older (if fault then moves else before_faulting layout tape moves) (m ∷ moves)
+  faulting_in : (m : Move) (moves : List Move) (fault : Bool) → Older (moves_before_fault layout tape moves) moves → Older (if fault then moves else moves_before_fault layout tape moves) (m ∷ moves)
   faulting_in m moves true h = (m ∷ [], refl)
   faulting_in m moves false h = (m ∷ h.0, ap (λ l. m ∷ l) h.1)
 
-  pub faulting_older : (moves : List Move) → Older (before_faulting layout tape moves) moves
+  pub faulting_older : (moves : List Move) → Older (moves_before_fault layout tape moves) moves
   faulting_older [] = ([], refl)
   faulting_older (m ∷ moves) = faulting_in m moves (faults (changed layout (At moves) m)) (faulting_older moves)

@@ -20,7 +20,7 @@ use Rattle.ak_model.specs.Premises.{MissesFit}
 use Rattle.ak_model.specs.Counted.{saved_count}
 use Rattle.ak_model.specs.Blame.{enters_at_one, returned_at}
 use Rattle.ak_model.specs.Honours.{entered_since_ask, is_finish_now, is_past_probes, probes_done}
-use Rattle.ak_model.specs.BlamedMove.{changed}
+use Rattle.ak_model.specs.MovesBefore.{changed}
 use Rattle.ak_model.specs.Orderly.{refuses_by, is_refused, is_live, IsOrderly}
 use Rattle.ak_model.proofs.Orderly.{trace_is_orderly}
 use Rattle.ak_model.proofs.PresentTrace.{counts_right}

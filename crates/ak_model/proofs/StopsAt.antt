@@ -1,7 +1,7 @@
 -- The move in which the enclave stopped: before it there was no cause, and the cause stays. What the cause says of the control
 -- state before that move.
 use Rattle.std.proofs.Common.{◌≡◌, ◌<◌, List, [], ◌∷◌, ◌++◌, length, arith, refl, ap, sym, ◌∙◌, subst}
-use Rattle.std.specs.Prelude.{true, false, if◌then◌else◌, Option, Some, None, is_some}
+use Rattle.std.specs.Prelude.{true, false, not, if◌then◌else◌, Option, Some, None, is_some}
 use Rattle.ak_core.specs.Layout.{Layout, IsValid}
 use Rattle.ak_core.specs.declared.event.Event.{Event}
 use Rattle.ak_core.specs.declared.event.StopCause.TheVariants.{Unmapped, RuntimeUnmapped, FetchNotHonoured, ResumedEarly, Stuck}
@@ -14,9 +14,8 @@ use Rattle.ak_model.specs.Entering.{interrupted_by}
 use Rattle.ak_model.specs.Trace.{trace}
 use Rattle.ak_model.specs.ProgramTurns.{program_turns}
 use Rattle.ak_model.specs.Premises.{MissesFit}
-use Rattle.ak_model.specs.Stopped.{past_unless, before_stop}
+use Rattle.ak_model.specs.MovesBefore.{changed, before_stop}
 use Rattle.ak_model.specs.Blamed.{newest_refusal}
-use Rattle.ak_model.specs.BlamedMove.{changed, before_stopping}
 use Rattle.ak_model.proofs.Placed.{placed}
 use Rattle.ak_model.proofs.ValidClusters.{clusters_fit}
 use Rattle.ak_model.proofs.Orderly.{trace_is_orderly}
@@ -82,34 +81,31 @@ module _ (layout : Layout) (valid : IsValid layout) (tape : List Event) (misses 
     pub newer : List Move
     pub stands : moves ≡ newer ++ stopping
     pub fewer : length stopping < length moves
-    pub history : (trace layout tape stopping).past ≡ before_stop layout tape moves
     pub says : StopSays layout (trace layout tape stopping).past (Of stopping) cause
 
   -- an earlier move stopped it, or this one did
-  stops_by : (m : Move) (moves : List Move) (x : Cause) (earlier : Option Cause) → (Of moves).cause ≡ earlier → (Of (m ∷ moves)).cause ≡ Some x → ((Of moves).cause ≡ Some x → StopsAfter moves x (before_stopping layout tape moves)) → StopsAfter (m ∷ moves) x (before_stopping layout tape (m ∷ moves))
+  stops_by : (m : Move) (moves : List Move) (x : Cause) (earlier : Option Cause) → (Of moves).cause ≡ earlier → (Of (m ∷ moves)).cause ≡ Some x → ((Of moves).cause ≡ Some x → StopsAfter moves x (before_stop layout tape moves)) → StopsAfter (m ∷ moves) x (before_stop layout tape (m ∷ moves))
   stops_by m moves x None e h go =
       let test : is_some (Of moves).cause ≡ false = ap is_some e in
-      subst (λ b. StopsAfter (m ∷ moves) x (if b then before_stopping layout tape moves else moves)) (sym test)
+      subst (λ b. StopsAfter (m ∷ moves) x (if not b then moves else before_stop layout tape moves)) (sym test)
       (record {
         newer = m ∷ [];
         stands = refl;
         fewer = omega arith;
-        history = sym (ap (λ b. past_unless b (before_stop layout tape moves) (trace layout tape moves).past) test);
         says = stop_says layout (trace layout tape moves).past (Of moves) (changed layout (trace layout tape moves) m) (Of (m ∷ moves)) x (did_next m moves) e h;
       })
   stops_by m moves x (Some y) e h go =
       let test : is_some (Of moves).cause ≡ true = ap is_some e in
       let later : (Of (m ∷ moves)).cause ≡ Some y = cause_later layout (trace layout tape moves).past (Of moves) (changed layout (trace layout tape moves) m) (Of (m ∷ moves)) y (did_next m moves) e in
       let before = go (e ∙ sym later ∙ h) in
-      subst (λ b. StopsAfter (m ∷ moves) x (if b then before_stopping layout tape moves else moves)) (sym test)
+      subst (λ b. StopsAfter (m ∷ moves) x (if not b then moves else before_stop layout tape moves)) (sym test)
       (record {
         newer = m ∷ before.newer;
         stands = ap (λ l. m ∷ l) before.stands;
         fewer = let l = before.fewer in omega arith;
-        history = before.history ∙ sym (ap (λ b. past_unless b (before_stop layout tape moves) (trace layout tape moves).past) test);
         says = before.says;
       })
 
-  pub stops-after : (moves : List Move) (x : Cause) → (Of moves).cause ≡ Some x → StopsAfter moves x (before_stopping layout tape moves)
+  pub stops-after : (moves : List Move) (x : Cause) → (Of moves).cause ≡ Some x → StopsAfter moves x (before_stop layout tape moves)
   stops-after [] x h = absurd (cc)
   stops-after (m ∷ moves) x h = stops_by m moves x (Of moves).cause refl h (stops-after moves x)

@@ -17,7 +17,8 @@ use Rattle.ak_model.specs.Forced.{queue_by}
 use Rattle.ak_model.specs.Premises.{MissesFit}
 use Rattle.ak_model.specs.Blame.{faults, is_fault}
 use Rattle.ak_model.specs.Blamed.{newest_refusal}
-use Rattle.ak_model.specs.BlamedMove.{changed, told_at}
+use Rattle.ak_model.specs.MovesBefore.{changed}
+use Rattle.ak_model.specs.BlamedMove.{told_at}
 use Rattle.ak_model.specs.Orderly.{refuses_by, is_refused, is_live, IsOrderly}
 use Rattle.ak_model.proofs.Someone.{IsQuiet}
 use Rattle.ak_model.proofs.Orderly.{trace_is_orderly}

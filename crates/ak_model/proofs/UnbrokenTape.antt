@@ -18,7 +18,8 @@ use Rattle.ak_model.specs.Premises.{MissesFit}
 use Rattle.ak_model.specs.Honours.{keeps_mapped, Honours}
 use Rattle.ak_model.specs.Blamed.{is_break}
 use Rattle.ak_model.specs.Stops.{has_break, shows_stop}
-use Rattle.ak_model.specs.Stopped.{IsStop, before_stop}
+use Rattle.ak_model.specs.MovesBefore.{before_stop}
+use Rattle.ak_model.specs.Stopped.{IsStop}
 use Rattle.ak_model.specs.Sound.{Sound}
 use Rattle.ak_model.proofs.Placed.{placed}
 use Rattle.ak_model.proofs.Someone.{is_someone}
@@ -92,7 +93,7 @@ module _ (image : List ℕ) (layout : Layout) (journal : Journal) (valid : IsVal
     no_cause : (ended_at layout journal).control.cause ≡ None
     no_cause = no_stop layout (runs_of layout image journal) journal.events (reverse journal.moves) valid sound-misses sound_breaks kept
 
-    stop_by : (cause : Option Cause) → cause ≡ None → IsStop layout (before_stop layout journal.events (reverse journal.moves)) cause journal.stop → journal.stop ≡ None
+    stop_by : (cause : Option Cause) → cause ≡ None → IsStop layout (trace layout journal.events (before_stop layout journal.events (reverse journal.moves))).past cause journal.stop → journal.stop ≡ None
     stop_by None e h = h
     stop_by (Some cause) e h = cc
 

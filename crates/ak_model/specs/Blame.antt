@@ -1,5 +1,5 @@
 -- Which move of the kernel is to blame for a stop: a place in the history, from 1. It is 0 where there is no such move.
-use Rattle.std.specs.Prelude.{ℕ, ◌+◌, Bool, true, false, ◌&&◌, not, [], ◌∷◌, length, max, ◌==◌, if◌then◌else◌}
+use Rattle.std.specs.Prelude.{ℕ, ◌+◌, Bool, true, false, ◌&&◌, not, List, [], ◌∷◌, length, max, ◌==◌, if◌then◌else◌}
 use Rattle.ak_core.specs.Layout.{Layout}
 use Rattle.ak_core.specs.Mem.{Touch}
 use Rattle.ak_core.specs.declared.moves.Exit.{Exit}
@@ -20,10 +20,14 @@ abbrev pub faults : Change → Bool
 faults (Exits lp exit) = is_fault exit
 faults _ = false
 
+-- of a list, the newest first, what is before the last item of which a test holds, given what is before the item
+abbrev pub before_last : {A : Type 0} → (A → List A → Bool) → List A → List A
+before_last test [] = []
+before_last test (item ∷ older) = if test item older then older else before_last test older
+
 -- the history before the last page fault
-abbrev pub before_fault : History → History
-before_fault [] = []
-before_fault (pair ∷ past) = if faults (change_of pair) then past else before_fault past
+abbrev pub past_before_fault : History → History
+past_before_fault past = before_last (λ pair. λ older. faults (change_of pair)) past
 
 -- the place of the last move that made an access fail: a walk found its page before, and finds it no more
 abbrev pub lost_at : Layout → History → Touch → ℕ
@@ -54,9 +58,9 @@ resumed_at (pair ∷ past) = if resumes (change_of pair) then length past + 1 el
 -- the blamed move, by the history before the move in which the enclave stopped. The fault that a cause names, but for
 -- Stuck, is the last one before that move. For Stuck it is that move itself
 abbrev pub blame : Layout → History → StopCause → ℕ
-blame layout past (Unmapped p kind) = lost_at layout (before_fault past) (record { page = p; kind = kind })
-blame layout past (RuntimeUnmapped p kind) = lost_at layout (before_fault past) (record { page = p; kind = kind })
+blame layout past (Unmapped p kind) = lost_at layout (past_before_fault past) (record { page = p; kind = kind })
+blame layout past (RuntimeUnmapped p kind) = lost_at layout (past_before_fault past) (record { page = p; kind = kind })
 blame layout past (FetchNotHonoured p kind) =
-    max (returned_at past) (lost_at layout (before_fault past) (record { page = p; kind = kind }))
+    max (returned_at past) (lost_at layout (past_before_fault past) (record { page = p; kind = kind }))
 blame layout past ResumedEarly = resumed_at past
 blame layout past (Stuck p kind) = lost_at layout past (record { page = p; kind = kind })

@@ -8,7 +8,7 @@ use Rattle.ak_model.specs.Walk.{touch_walkable}
 use Rattle.ak_model.specs.Control.{Context, Guard, Reason, Interrupted, Cleared, Broke, Faulted, Saved, Control}
 use Rattle.ak_model.specs.Trace.{Moment}
 use Rattle.ak_model.specs.ProgramTurns.{ProgramTurn}
-use Rattle.ak_model.specs.Blame.{before_fault, resumed_at}
+use Rattle.ak_model.specs.Blame.{past_before_fault, resumed_at}
 use Rattle.ak_model.specs.Orderly.{is_live}
 
 -- this reason, if it refuses to resume, or else another
@@ -51,4 +51,4 @@ pub record BlameStands (layout : Layout) (before : History) (resumed : ℕ) (tur
 -- it does, by the history of a moment and the program turns so far
 abbrev pub BlameStandsAt : Layout → List ProgramTurn → Moment → Type 0
 BlameStandsAt layout turns moment =
-    BlameStands layout (before_fault moment.past) (resumed_at moment.past) turns moment.control
+    BlameStands layout (past_before_fault moment.past) (resumed_at moment.past) turns moment.control

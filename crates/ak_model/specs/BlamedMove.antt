@@ -1,6 +1,6 @@
 -- What the move to blame did, and which rule of a well-behaved kernel is broken at the fault that a stop comes from. (The Autarky
 -- paper, self-paging runtime: what the runtime asks of the kernel.)
-use Rattle.std.specs.Prelude.{◌≡◌, ◌⊎◌, ℕ, ◌+◌, ◌<◌, ◌≤◌, Bool, true, false, ◌&&◌, List, [], ◌∷◌, ◌++◌, length, drop, reverse, Option, Some, None, is_some, ◌==◌, if◌then◌else◌}
+use Rattle.std.specs.Prelude.{◌≡◌, ◌⊎◌, ℕ, ◌+◌, ◌<◌, ◌≤◌, Bool, true, false, ◌&&◌, List, [], ◌∷◌, ◌++◌, length, drop, reverse, Option, Some, None, ◌==◌, if◌then◌else◌}
 use Rattle.ak_core.specs.Layout.{Layout}
 use Rattle.ak_core.specs.Journal.{Journal}
 use Rattle.ak_core.specs.Mem.{Touch}
@@ -10,40 +10,24 @@ use Rattle.ak_core.specs.declared.event.StopCause.{StopCause}
 use Rattle.ak_core.specs.declared.event.StopCause.TheVariants.{Unmapped, RuntimeUnmapped, FetchNotHonoured, ResumedEarly, Stuck}
 use Rattle.ak_core.specs.declared.moves.Move.{Move}
 use Rattle.ak_model.specs.Pages.{pages, cluster_at, permits, strong_kind}
-use Rattle.ak_model.specs.History.{History, Change, change, Enters}
+use Rattle.ak_model.specs.History.{History, Change, Enters}
 use Rattle.ak_model.specs.Inside.{someone_inside}
 use Rattle.ak_model.specs.Walk.{touch_walkable}
 use Rattle.ak_model.specs.Queue.{is_in}
 use Rattle.ak_model.specs.Control.{Phase, Asked, Reason, Broke, Faulted, cssa, is_asked}
-use Rattle.ak_model.specs.Answers.{answer}
 use Rattle.ak_model.specs.Trace.{Moment, step, trace}
 use Rattle.ak_model.specs.Blame.{faults, returned_at}
+use Rattle.ak_model.specs.MovesBefore.{changed, before_stop, moves_before_fault}
 use Rattle.ak_model.specs.Blamed.{newest_refusal}
 use Rattle.ak_model.specs.Honours.{keeps_mapped, keeps_fetched, resumes_early}
 use Rattle.ak_model.specs.Orderly.{IsOwnAccess}
 
--- ---- The moves before the stop and before the fault; of these moves, the newest first
-
--- what a move changes at a moment
-abbrev pub changed : Layout → Moment → Move → Change
-changed layout moment m = change m (answer layout moment.past moment.control m)
-
--- the moves before the one in which the enclave stopped
-abbrev pub before_stopping : Layout → List Event → List Move → List Move
-before_stopping layout tape [] = []
-before_stopping layout tape (m ∷ moves) =
-    if is_some (trace layout tape moves).control.cause then before_stopping layout tape moves else moves
-
--- the moves before the one that left by the last page fault
-abbrev pub before_faulting : Layout → List Event → List Move → List Move
-before_faulting layout tape [] = []
-before_faulting layout tape (m ∷ moves) =
-    if faults (changed layout (trace layout tape moves) m) then moves else before_faulting layout tape moves
+-- ---- The fault that a stop comes from
 
 -- the moves before that of the fault that a cause names; for Stuck, that in which the enclave stopped
 abbrev pub before_fault_of : Layout → List Event → List Move → StopCause → List Move
 before_fault_of layout tape moves (Stuck p kind) = moves
-before_fault_of layout tape moves cause = before_faulting layout tape moves
+before_fault_of layout tape moves cause = moves_before_fault layout tape moves
 
 -- the newest refusal to resume, right after the last page fault
 abbrev pub told_at : Layout → List Event → List Move → Option Reason
@@ -138,4 +122,4 @@ pub record IsBlamed (layout : Layout) (tape : List Event) (stopping : List Move)
 -- so it is for a journal's stop
 abbrev pub BlamedIn : Layout → Journal → Stop → Type 0
 BlamedIn layout journal stop =
-    IsBlamed layout journal.events (before_stopping layout journal.events (reverse journal.moves)) stop
+    IsBlamed layout journal.events (before_stop layout journal.events (reverse journal.moves)) stop

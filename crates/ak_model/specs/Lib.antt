@@ -38,6 +38,7 @@ pub mod Presence
 pub mod Orderly
 pub mod Counted
 pub mod Blame
+pub mod MovesBefore
 pub mod Honours
 pub mod Evicts
 pub mod Ideal

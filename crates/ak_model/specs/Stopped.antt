@@ -1,7 +1,7 @@
 -- Two parts of the soundness of a journal, on how an enclave ends for ever: breaks are forced where translations are kept, and
 -- name the page of the stop; and the stop is that of the control state, with the move to blame. (The Autarky paper,
 -- self-paging runtime: a fault on a page that should be there ends the enclave.)
-use Rattle.std.specs.Prelude.{◌≡◌, ℕ, Bool, true, false, List, [], ◌∷◌, reverse, Option, Some, None, is_some}
+use Rattle.std.specs.Prelude.{◌≡◌, ℕ, true, List, reverse, Option, Some, None}
 use Rattle.ak_core.specs.Layout.{Layout}
 use Rattle.ak_core.specs.Journal.{Journal}
 use Rattle.ak_core.specs.Mem.{Touch}
@@ -12,7 +12,6 @@ use Rattle.ak_core.specs.declared.event.Event.TheVariants.{Break}
 use Rattle.ak_core.specs.declared.event.Stop.{Stop}
 use Rattle.ak_core.specs.declared.event.StopCause.{StopCause}
 use Rattle.ak_core.specs.declared.event.StopCause.TheVariants.{Unmapped}
-use Rattle.ak_core.specs.declared.moves.Move.{Move}
 use Rattle.ak_model.specs.Pages.{cluster_at}
 use Rattle.ak_model.specs.History.{History}
 use Rattle.ak_model.specs.Queue.{is_in}
@@ -23,6 +22,7 @@ use Rattle.ak_model.specs.ProgramTurns.{ProgramTurn}
 use Rattle.ak_model.specs.Forced.{EachTurn, queue_by, turns_of}
 use Rattle.ak_model.specs.Kept.{MayFaultUnkept}
 use Rattle.ak_model.specs.Blame.{blame}
+use Rattle.ak_model.specs.MovesBefore.{before_stop}
 
 -- ---- Breaks
 
@@ -55,17 +55,6 @@ pub record BreaksAreForcedUnkept (image : List ℕ) (layout : Layout) (journal :
 
 -- ---- The stop
 
--- the earlier history, where the enclave had stopped before
-abbrev pub past_unless : Bool → History → History → History
-past_unless true earlier here = earlier
-past_unless false earlier here = here
-
--- the history before the move in which the enclave stopped, of these moves, the newest first
-abbrev pub before_stop : Layout → List Event → List Move → History
-before_stop layout tape [] = []
-before_stop layout tape (m ∷ moves) =
-    past_unless (is_some (trace layout tape moves).control.cause) (before_stop layout tape moves) (trace layout tape moves).past
-
 -- the stop for a cause, with the move to blame
 abbrev pub stop_for : Layout → History → StopCause → Stop
 stop_for layout past cause = record { cause = cause; blame = blame layout past cause }
@@ -78,4 +67,5 @@ IsStop layout past (Some Broken) stop = (p : Page) × (kind : Kind) × (stop ≡
 
 -- the journal's stop is that of its last moment, blamed by the history before the move in which the enclave stopped
 pub record IsStopped (layout : Layout) (journal : Journal) : Type 0 where
-  pub stopped : IsStop layout (before_stop layout journal.events (reverse journal.moves)) (ended_at layout journal).control.cause journal.stop
+  pub stopped : IsStop layout (trace layout journal.events (before_stop layout journal.events (reverse journal.moves))).past
+      (ended_at layout journal).control.cause journal.stop
