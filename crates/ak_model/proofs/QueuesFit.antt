@@ -7,8 +7,7 @@ use Rattle.ak_core.specs.declared.event.Event.TheVariants.{Call, Miss, Trap, Bre
 use Rattle.ak_model.specs.Build.{queue_at_build}
 use Rattle.ak_model.specs.Queue.{drops, after_miss, queue_after, is_in}
 use Rattle.ak_model.specs.Orderly.{QueueFits}
-use Rattle.ak_model.specs.Premises.{MissesFit}
-use Rattle.ak_model.specs.MissedClusters.{missed_on, AreOut}
+use Rattle.ak_model.specs.MissedClusters.{AreOut}
 use Rattle.ak_model.specs.Ends.{Runs}
 use Rattle.ak_model.specs.ProgramTurns.{ProgramTurn}
 use Rattle.ak_model.specs.Forced.{EachTurn, missed_by, queue_by}
@@ -33,17 +32,6 @@ module _ (layout : Layout) (valid : IsValid layout) where
   -- from the build on
   pub misses_fit : (misses : List ℕ) → AreOut layout (queue_at_build layout.build layout) misses → QueueFits layout (queue_after layout misses)
   misses_fit misses h = all_fit (queue_at_build layout.build layout) misses h (queue_fits layout)
-
-  -- the misses of a tape that fit
-  pub tape_out : (queue : List ℕ) (tape : List Event) → MissesFit layout queue tape → AreOut layout queue (missed_on tape)
-  tape_out queue [] h = tt
-  tape_out queue (Call i b a ∷ tape) h = tape_out queue tape h
-  tape_out queue (Trap i v ∷ tape) h = tape_out queue tape h
-  tape_out queue (Break i ∷ tape) h = tape_out queue tape h
-  tape_out queue (Miss i c ∷ tape) h = (h.0, h.1, tape_out (after_miss layout queue c) tape h.2)
-
-  pub tape_fits : (tape : List Event) → MissesFit layout (queue_at_build layout.build layout) tape → QueueFits layout (queue_after layout (missed_on tape))
-  tape_fits tape h = misses_fit (missed_on tape) (tape_out (queue_at_build layout.build layout) tape h)
 
 module _ (layout : Layout) (valid : IsValid layout) (runs : Runs) where
   turn_fits : (turn : ProgramTurn) (older : List ProgramTurn) (event : Option Event) → turn.event ≡ event → MissedBy layout runs turn older event → QueueFits layout (queue_by layout older) → QueueFits layout (queue_by layout (turn ∷ older))

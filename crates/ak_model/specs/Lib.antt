@@ -22,6 +22,7 @@ pub mod Trace
 pub mod Instructions
 pub mod Flat
 pub mod Tape
+pub mod MissedClusters
 pub mod Premises
 pub mod Ends
 pub mod Outputs
@@ -51,5 +52,4 @@ pub mod Kept
 pub mod Misses
 pub mod Stopped
 pub mod Sound
-pub mod MissedClusters
 pub mod BlamedMove

@@ -1,9 +1,9 @@
 -- Words for what laws ask and say of a tape.
-use Rattle.std.specs.Prelude.{◌≡◌, ℕ, ◌≤◌, ◌<◌, false, List, [], ◌∷◌, length, Option, Some, None, nat_le, ◌==◌, if◌then◌else◌}
+use Rattle.std.specs.Prelude.{ℕ, ◌≤◌, ◌<◌, List, [], ◌∷◌, length, Option, Some, None, nat_le, ◌==◌, if◌then◌else◌}
 use Rattle.ak_core.specs.Layout.{Layout}
 use Rattle.ak_core.specs.declared.event.Event.{Event}
 use Rattle.ak_core.specs.declared.event.Event.TheVariants.{Call, Miss, Trap, Break}
-use Rattle.ak_model.specs.Queue.{after_miss, is_in}
+use Rattle.ak_model.specs.MissedClusters.{missed_on, AreOut}
 use Rattle.ak_model.specs.ProgramStep.{count_of}
 
 -- all events but the last k
@@ -19,10 +19,7 @@ IsLater (event ∷ rest) count = count ≤ count_of event
 
 -- each miss is of a cluster of the layout that is out by the misses before it, from this queue on
 abbrev pub MissesFit : Layout → List ℕ → List Event → Type 0
-MissesFit layout queue [] = Unit {0}
-MissesFit layout queue (Miss i c ∷ tape) =
-    (c < layout.clusters) × (is_in queue c ≡ false) × MissesFit layout (after_miss layout queue c) tape
-MissesFit layout queue (event ∷ tape) = MissesFit layout queue tape
+MissesFit layout queue tape = AreOut layout queue (missed_on tape)
 
 -- a miss of this count, before others
 abbrev pub with_miss : ℕ → Event → List ℕ → List ℕ
