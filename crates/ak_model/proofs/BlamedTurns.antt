@@ -14,8 +14,8 @@ use Rattle.ak_model.specs.Control.{Phase, New, Running, Calling, Asked, Ended, T
 use Rattle.ak_model.specs.Turn.{Turn, Goes, Leaves}
 use Rattle.ak_model.specs.RuntimeStep.{asked_pages, touches, first_fault, step_fault, guard_top, program_at_bottom, shown_fault, handle, enter, finish, resume_guard, leave_call, effect, unless_fault, runtime_turn}
 use Rattle.ak_model.specs.ProgramStep.{due, leave_program, event_turn}
-use Rattle.ak_model.specs.Turns.{turn_of, turn, Ran, go_on, run}
-use Rattle.ak_model.specs.ProgramTurns.{ProgramTurn, turn_in, turns_after, turns_of_run}
+use Rattle.ak_model.specs.Turns.{turn_of, turn, Ran, go_on, run, unless_left, before_turns}
+use Rattle.ak_model.specs.ProgramTurns.{ProgramTurn, turn_in, turns_in, turns_of_run}
 use Rattle.ak_model.specs.Blame.{is_fault}
 use Rattle.ak_model.specs.Blamed.{newest_refusal, FaultStands, is_guard, BlameStands}
 use Rattle.ak_model.specs.Orderly.{ContextFits, NowFits, SavedFits, StackFits, is_live, IsOrderly, TurnIsOrderly, after_turn}
@@ -185,7 +185,7 @@ module _ (layout : Layout) (past : History) (resumed : ℕ) where
     abbrev pub RanStands : History → List ProgramTurn → Ran → Type 0
     RanStands before turns ran = BlameStands layout (if is_fault ran.exit then past else before) resumed turns ran.control
 
-    go_stands : (before : History) (turns : List ProgramTurn) (n : ℕ) (so_far : List ℕ) (t : Turn) → TurnIsOrderly layout so_far t → TurnStands before turns t → ((control : Control) → IsOrderly layout so_far true control → BlameStands layout before resumed turns control → RanStands before (reverse (turns_of_run layout lp past n control) ++ turns) (run layout past n control)) → RanStands before (reverse (turns_after t (turns_of_run layout lp past n)) ++ turns) (go_on t (run layout past n))
+    go_stands : (before : History) (turns : List ProgramTurn) (n : ℕ) (so_far : List ℕ) (t : Turn) → TurnIsOrderly layout so_far t → TurnStands before turns t → ((control : Control) → IsOrderly layout so_far true control → BlameStands layout before resumed turns control → RanStands before (reverse (turns_of_run layout lp past n control) ++ turns) (run layout past n control)) → RanStands before (reverse (turns_in lp past (unless_left t (before_turns layout past n))) ++ turns) (go_on t (run layout past n))
     go_stands before turns n so_far (Goes next) o h later = later next o h
     go_stands before turns n so_far (Leaves exit next) o h later = h
 
@@ -195,7 +195,7 @@ module _ (layout : Layout) (past : History) (resumed : ℕ) where
     run_stands (suc n) before turns so_far control orderly old =
         let t : Turn = turn layout past control in
         let here : List ProgramTurn = turn_in lp past control control.now in
-        let more : List ProgramTurn = turns_after t (turns_of_run layout lp past n) in
+        let more : List ProgramTurn = turns_in lp past (unless_left t (before_turns layout past n)) in
         let next : List ℕ = after_turn layout so_far control control.now in
         let on = go_stands before (reverse here ++ turns) n next t (turn_fits layout so_far fit past control orderly) (turn_by so_far before turns control orderly old control.now refl orderly.now) (run_stands n before (reverse here ++ turns) next) in
         let joined : reverse (here ++ more) ++ turns ≡ reverse more ++ (reverse here ++ turns) =

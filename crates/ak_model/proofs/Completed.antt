@@ -14,12 +14,12 @@ use Rattle.ak_model.specs.Inside.{inside}
 use Rattle.ak_model.specs.Control.{Context, Program, Entry, Probe, Finish, Guard, Leave, Saved, Control}
 use Rattle.ak_model.specs.Turn.{Turn, Goes, Leaves}
 use Rattle.ak_model.specs.ProgramStep.{due, event_turn}
-use Rattle.ak_model.specs.Turns.{turn_of, turn, go_on, run}
+use Rattle.ak_model.specs.Turns.{turn_of, turn, go_on, run, unless_left, before_turns}
 use Rattle.ak_model.specs.Answers.{answer}
 use Rattle.ak_model.specs.Entering.{entered, resumed_by, interrupted_by, on_ok, on_exit}
 use Rattle.ak_model.specs.Trace.{Moment, step, trace}
 use Rattle.ak_model.specs.Kept.{completes_by}
-use Rattle.ak_model.specs.ProgramTurns.{ProgramTurn, turn_in, turns_after, turns_of_run, turns_of_move, program_turns}
+use Rattle.ak_model.specs.ProgramTurns.{ProgramTurn, turn_in, turns_in, turns_of_run, turns_of_move, program_turns}
 use Rattle.ak_model.proofs.TapeRuns.{after, runtime_count}
 use Rattle.ak_model.proofs.Placed.{placed}
 
@@ -68,7 +68,7 @@ module _ (layout : Layout) where
 
   -- ---- A run
 
-  goes_completed : (lp : ℕ) (past : History) (n : ℕ) (older : List ProgramTurn) (t : Turn) → (after t).count ≡ completed older → ((control : Control) → control.count ≡ completed older → (run layout past n control).control.count ≡ completed (reverse (turns_of_run layout lp past n control) ++ older)) → (go_on t (run layout past n)).control.count ≡ completed (reverse (turns_after t (turns_of_run layout lp past n)) ++ older)
+  goes_completed : (lp : ℕ) (past : History) (n : ℕ) (older : List ProgramTurn) (t : Turn) → (after t).count ≡ completed older → ((control : Control) → control.count ≡ completed older → (run layout past n control).control.count ≡ completed (reverse (turns_of_run layout lp past n control) ++ older)) → (go_on t (run layout past n)).control.count ≡ completed (reverse (turns_in lp past (unless_left t (before_turns layout past n))) ++ older)
   goes_completed lp past n older (Goes next) h later = later next h
   goes_completed lp past n older (Leaves exit next) h later = h
 
@@ -76,7 +76,7 @@ module _ (layout : Layout) where
   run_completed lp past zero control older h = h
   run_completed lp past (suc n) control older h =
       let here : List ProgramTurn = turn_in lp past control control.now in
-      let more : List ProgramTurn = turns_after (turn layout past control) (turns_of_run layout lp past n) in
+      let more : List ProgramTurn = turns_in lp past (unless_left (turn layout past control) (before_turns layout past n)) in
       goes_completed lp past n (reverse here ++ older) (turn layout past control) (turn-completed lp past control older h) (λ next. run_completed lp past n next (reverse here ++ older))
       ∙ ap completed (sym (joined here more older))
 

@@ -19,11 +19,11 @@ use Rattle.ak_model.specs.Queue.{after_miss, queue_after}
 use Rattle.ak_model.specs.Control.{Context, Program, Entry, Probe, Finish, Guard, Leave, Saved, Control}
 use Rattle.ak_model.specs.Turn.{Turn, Goes, Leaves}
 use Rattle.ak_model.specs.ProgramStep.{count_of, due, without_first, event_turn}
-use Rattle.ak_model.specs.Turns.{turn_of, turn, go_on, run}
+use Rattle.ak_model.specs.Turns.{turn_of, turn, go_on, run, unless_left, before_turns}
 use Rattle.ak_model.specs.Answers.{answer}
 use Rattle.ak_model.specs.Entering.{entered, resumed_by, interrupted_by, on_ok, on_exit}
 use Rattle.ak_model.specs.Trace.{Moment, step, trace}
-use Rattle.ak_model.specs.ProgramTurns.{ProgramTurn, turn_in, turns_after, turns_of_run, turns_of_move, program_turns}
+use Rattle.ak_model.specs.ProgramTurns.{ProgramTurn, turn_in, turns_in, turns_of_run, turns_of_move, program_turns}
 use Rattle.ak_model.specs.Premises.{MissesFit}
 use Rattle.ak_model.specs.Ends.{Runs}
 use Rattle.ak_model.specs.Forced.{EachTurn, missed_by, queue_by}
@@ -103,14 +103,14 @@ module _ (layout : Layout) where
 
   -- ---- A run
 
-  after_given : (lp : ℕ) (past : History) (n : ℕ) → ((control : Control) → given (turns_of_run layout lp past n control) (run layout past n control).control.rest ≡ control.rest) → (t : Turn) → given (turns_after t (turns_of_run layout lp past n)) (go_on t (run layout past n)).control.rest ≡ (after t).rest
+  after_given : (lp : ℕ) (past : History) (n : ℕ) → ((control : Control) → given (turns_of_run layout lp past n control) (run layout past n control).control.rest ≡ control.rest) → (t : Turn) → given (turns_in lp past (unless_left t (before_turns layout past n))) (go_on t (run layout past n)).control.rest ≡ (after t).rest
   after_given lp past n later (Goes next) = later next
   after_given lp past n later (Leaves exit next) = refl
 
   run_given : (lp : ℕ) (past : History) (n : ℕ) (control : Control) → given (turns_of_run layout lp past n control) (run layout past n control).control.rest ≡ control.rest
   run_given lp past zero control = refl
   run_given lp past (suc n) control =
-      given_append (turn_in lp past control control.now) (turns_after (turn layout past control) (turns_of_run layout lp past n)) (run layout past (suc n) control).control.rest
+      given_append (turn_in lp past control control.now) (turns_in lp past (unless_left (turn layout past control) (before_turns layout past n))) (run layout past (suc n) control).control.rest
       ∙ ap (given (turn_in lp past control control.now)) (after_given lp past n (run_given lp past n) (turn layout past control))
       ∙ turn_given lp past control control.now
 

@@ -18,12 +18,12 @@ use Rattle.ak_model.specs.History.{History, Change, Unchanged, Maps, Blocks, Cyc
 use Rattle.ak_model.specs.Inside.{inside, someone_inside}
 use Rattle.ak_model.specs.Control.{Phase, Context, Program, Entry, Probe, Finish, Guard, Leave, Saved, Control, cssa, is_asked}
 use Rattle.ak_model.specs.Turn.{Turn, Goes, Leaves}
-use Rattle.ak_model.specs.Turns.{turn, Ran, go_on, run}
+use Rattle.ak_model.specs.Turns.{turn, Ran, go_on, run, unless_left, before_turns}
 use Rattle.ak_model.specs.Answers.{answer, enter_answer, resume_answer, if_inside}
 use Rattle.ak_model.specs.Entering.{entered, resumed_by, interrupted_by, on_ok, on_exit}
 use Rattle.ak_model.specs.Trace.{Moment, step, trace}
-use Rattle.ak_model.specs.Moments.{unless_left, before_turns, turn_moments, moments}
-use Rattle.ak_model.specs.ProgramTurns.{program_turns, ProgramTurn, turn_at, turn_in, turns_after, turns_of_run, turns_of_move}
+use Rattle.ak_model.specs.Moments.{turn_moments, moments}
+use Rattle.ak_model.specs.ProgramTurns.{program_turns, ProgramTurn, turn_at, turn_in, turns_in, turns_of_run, turns_of_move}
 use Rattle.ak_model.specs.Forced.{queue_by, EachTurn, BreakIsForced, BrokenBy}
 use Rattle.ak_model.specs.Premises.{MissesFit}
 use Rattle.ak_model.specs.Honours.{keeps_mapped, keeps_fetched, entered_since_ask, entered_after, resumes_early, never_resumes_early, Honours}
@@ -81,7 +81,7 @@ module _ (layout : Layout) (fit : ClustersFit layout) (runs : Runs) where
     abbrev RunsCalm : ℕ → List ProgramTurn → Control → Type 0
     RunsCalm n older control = IsOrderly layout (queue_by layout older) true control → IsCalm (entered_since_ask past) control → Broken (reverse (turns_of_run layout lp past n control) ++ older) → list_all (mapped_at past) (before_turns layout past n control) ≡ true → list_all (fetched_at past) (before_turns layout past n control) ≡ true → RanCalm (entered_since_ask past) (run layout past n control)
 
-    go_calm : (n : ℕ) (older : List ProgramTurn) (t : Turn) → TurnIsOrderly layout (queue_by layout older) t → TurnCalm (entered_since_ask past) t → Broken (reverse (turns_after t (turns_of_run layout lp past n)) ++ older) → list_all (mapped_at past) (unless_left t (before_turns layout past n)) ≡ true → list_all (fetched_at past) (unless_left t (before_turns layout past n)) ≡ true → ((control : Control) → RunsCalm n older control) → RanCalm (entered_since_ask past) (go_on t (run layout past n))
+    go_calm : (n : ℕ) (older : List ProgramTurn) (t : Turn) → TurnIsOrderly layout (queue_by layout older) t → TurnCalm (entered_since_ask past) t → Broken (reverse (turns_in lp past (unless_left t (before_turns layout past n))) ++ older) → list_all (mapped_at past) (unless_left t (before_turns layout past n)) ≡ true → list_all (fetched_at past) (unless_left t (before_turns layout past n)) ≡ true → ((control : Control) → RunsCalm n older control) → RanCalm (entered_since_ask past) (go_on t (run layout past n))
     go_calm n older (Goes next) o h b m f later = later next o h b m f
     go_calm n older (Leaves exit next) o h b m f later = inr h
 
@@ -97,7 +97,7 @@ module _ (layout : Layout) (fit : ClustersFit layout) (runs : Runs) where
         let fs = and_parts (fetched_at past control) _ f in
         let t : Turn = turn layout past control in
         let here : List ProgramTurn = turn_in lp past control control.now in
-        let more : List ProgramTurn = turns_after t (turns_of_run layout lp past n) in
+        let more : List ProgramTurn = turns_in lp past (unless_left t (before_turns layout past n)) in
         let joined : reverse (here ++ more) ++ older ≡ reverse more ++ (reverse here ++ older) =
         ap (λ l. l ++ older) (reverse-append here more) ∙ append_assoc (reverse more) (reverse here) older in
         let all : Broken (reverse more ++ (reverse here ++ older)) = subst Broken joined b in

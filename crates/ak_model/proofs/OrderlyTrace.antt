@@ -16,12 +16,12 @@ use Rattle.ak_model.specs.History.{History, Change, Exits, if_ok, if_handle, if_
 use Rattle.ak_model.specs.Inside.{inside, someone_inside}
 use Rattle.ak_model.specs.Control.{Context, Program, Entry, Probe, Finish, Guard, Leave, Control}
 use Rattle.ak_model.specs.Turn.{Turn, Goes, Leaves}
-use Rattle.ak_model.specs.Turns.{turn, Ran, go_on, run}
+use Rattle.ak_model.specs.Turns.{turn, Ran, go_on, run, unless_left, before_turns}
 use Rattle.ak_model.specs.Answers.{answer, enter_answer, resume_answer, if_inside}
 use Rattle.ak_model.specs.Entering.{on_exit}
 use Rattle.ak_model.specs.Trace.{Moment, step, trace}
-use Rattle.ak_model.specs.Moments.{unless_left, before_turns, turn_moments, moments}
-use Rattle.ak_model.specs.ProgramTurns.{ProgramTurn, turn_at, turn_in, turns_after, turns_of_run, turns_of_move, program_turns}
+use Rattle.ak_model.specs.Moments.{turn_moments, moments}
+use Rattle.ak_model.specs.ProgramTurns.{ProgramTurn, turn_at, turn_in, turns_in, turns_of_run, turns_of_move, program_turns}
 use Rattle.ak_model.specs.Forced.{missed_by, queue_by}
 use Rattle.ak_model.specs.Queue.{queue_after}
 use Rattle.ak_model.specs.Orderly.{IsOrderly, TurnIsOrderly, after_event, after_turn, OrderlyAfter, KeepsLaws}
@@ -71,7 +71,7 @@ module _ (layout : Layout) where
     abbrev RunIsOrderly : List ProgramTurn → ℕ → Control → Type 0
     RunIsOrderly older n control = RanIsOrderly (queue_by layout (reverse (turns_of_run layout lp past n control) ++ older)) (run layout past n control) × All Keeps (before_turns layout past n control)
 
-    go_fits : (older : List ProgramTurn) (n : ℕ) (t : Turn) → TurnIsOrderly layout (queue_by layout older) t → ((control : Control) → IsOrderly layout (queue_by layout older) true control → RunIsOrderly older n control) → RanIsOrderly (queue_by layout (reverse (turns_after t (turns_of_run layout lp past n)) ++ older)) (go_on t (run layout past n)) × All Keeps (unless_left t (before_turns layout past n))
+    go_fits : (older : List ProgramTurn) (n : ℕ) (t : Turn) → TurnIsOrderly layout (queue_by layout older) t → ((control : Control) → IsOrderly layout (queue_by layout older) true control → RunIsOrderly older n control) → RanIsOrderly (queue_by layout (reverse (turns_in lp past (unless_left t (before_turns layout past n))) ++ older)) (go_on t (run layout past n)) × All Keeps (unless_left t (before_turns layout past n))
     go_fits older n (Goes next) h later = later next h
     go_fits older n (Leaves exit next) h later = (inr h, All-nil Keeps)
 
@@ -80,7 +80,7 @@ module _ (layout : Layout) where
     run_fits (suc n) older control old =
         let t : Turn = turn layout past control in
         let here : List ProgramTurn = turn_in lp past control control.now in
-        let more : List ProgramTurn = turns_after t (turns_of_run layout lp past n) in
+        let more : List ProgramTurn = turns_in lp past (unless_left t (before_turns layout past n)) in
         let fits : TurnIsOrderly layout (queue_by layout (reverse here ++ older)) t =
         subst (λ q. TurnIsOrderly layout q t) (turn_more lp past control control.now older) (turn_fits layout (queue_by layout older) fit past control old) in
         let on = go_fits (reverse here ++ older) n t fits (λ next. run_fits n (reverse here ++ older) next) in

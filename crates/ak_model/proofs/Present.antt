@@ -17,10 +17,9 @@ use Rattle.ak_model.specs.Control.{Phase, New, Running, Calling, Asked, Ended, T
 use Rattle.ak_model.specs.Turn.{Turn, Goes, Leaves}
 use Rattle.ak_model.specs.RuntimeStep.{asked_pages, touches, step_fault, handle, enter, finish, resume_guard, leave_call, effect, unless_fault}
 use Rattle.ak_model.specs.ProgramStep.{due, event_turn}
-use Rattle.ak_model.specs.Turns.{turn_of, turn, Ran, go_on, run}
+use Rattle.ak_model.specs.Turns.{turn_of, turn, Ran, go_on, run, unless_left, before_turns}
 use Rattle.ak_model.specs.Answers.{enter_answer, resume_answer}
 use Rattle.ak_model.specs.Entering.{entered, resumed_by, interrupted_by, on_ok, on_exit}
-use Rattle.ak_model.specs.Moments.{unless_left, before_turns}
 use Rattle.ak_model.proofs.Someone.{other, someone_after, entered_someone, resumed_someone, is_someone, outside_ok, IsQuiet}
 
 -- the processor is still inside

@@ -14,8 +14,8 @@ use Rattle.ak_model.specs.Turn.{Turn, Goes, Leaves}
 use Rattle.ak_model.specs.RuntimeStep.{touches, step_fault, handle, enter, finish, resume_guard, leave_call, effect, unless_fault}
 use Rattle.ak_model.specs.ProgramStep.{due, leave_program, event_turn}
 use Rattle.ak_model.specs.RuntimeStep.{shown_fault}
-use Rattle.ak_model.specs.Turns.{turn_of, turn, Ran, go_on, run}
-use Rattle.ak_model.specs.ProgramTurns.{ProgramTurn, turn_in, turns_after, turns_of_run}
+use Rattle.ak_model.specs.Turns.{turn_of, turn, Ran, go_on, run, unless_left, before_turns}
+use Rattle.ak_model.specs.ProgramTurns.{ProgramTurn, turn_in, turns_in, turns_of_run}
 use Rattle.ak_model.specs.Forced.{queue_by}
 use Rattle.ak_model.specs.Blamed.{is_guard}
 use Rattle.ak_model.specs.Honours.{is_finish_now}
@@ -212,7 +212,7 @@ module _ (layout : Layout) (fit : ClustersFit layout) (lp : ℕ) (past : History
   abbrev pub Ends : Control → List ProgramTurn → Ran → Type 0
   Ends start turns ran = ((ran.exit ≡ Still) × Since start ran.control) ⊎ Ending start turns ran
 
-  go_ends : (start control : Control) (n : ℕ) (older : List ProgramTurn) (t : Turn) → Since start control → IsOrderly layout (queue_by layout older) true control → turn layout past control ≡ t → TurnSince control t → ((next : Control) → t ≡ Goes next → Since start next → Ends start (reverse (turns_of_run layout lp past n next) ++ (reverse (turn_in lp past control control.now) ++ older)) (run layout past n next)) → Ends start (reverse (turns_after t (turns_of_run layout lp past n)) ++ (reverse (turn_in lp past control control.now) ++ older)) (go_on t (run layout past n))
+  go_ends : (start control : Control) (n : ℕ) (older : List ProgramTurn) (t : Turn) → Since start control → IsOrderly layout (queue_by layout older) true control → turn layout past control ≡ t → TurnSince control t → ((next : Control) → t ≡ Goes next → Since start next → Ends start (reverse (turns_of_run layout lp past n next) ++ (reverse (turn_in lp past control control.now) ++ older)) (run layout past n next)) → Ends start (reverse (turns_in lp past (unless_left t (before_turns layout past n))) ++ (reverse (turn_in lp past control control.now) ++ older)) (go_on t (run layout past n))
   go_ends start control n older (Goes next) s o e h later = later next refl (since_more start control next s h)
   go_ends start control n older (Leaves exit next) s o e h later = inr (record { control = control; older = older; since = s; orderly = o; last = e; turns_are = refl })
 
@@ -221,7 +221,7 @@ module _ (layout : Layout) (fit : ClustersFit layout) (lp : ℕ) (past : History
   ends_by start (suc n) older control s o =
       let t : Turn = turn layout past control in
       let here : List ProgramTurn = turn_in lp past control control.now in
-      let more : List ProgramTurn = turns_after t (turns_of_run layout lp past n) in
+      let more : List ProgramTurn = turns_in lp past (unless_left t (before_turns layout past n)) in
       let fits : TurnIsOrderly layout (queue_by layout (reverse here ++ older)) t =
       subst (λ q. TurnIsOrderly layout q t) (turn_more layout lp past control control.now older) (turn_fits layout (queue_by layout older) fit past control o) in
       let joined : reverse (here ++ more) ++ older ≡ reverse more ++ (reverse here ++ older) =

@@ -13,11 +13,11 @@ use Rattle.ak_model.specs.Inside.{inside}
 use Rattle.ak_model.specs.Control.{Context, Program, Entry, Probe, Finish, Guard, Leave, Saved, Control}
 use Rattle.ak_model.specs.Turn.{Turn, Goes, Leaves}
 use Rattle.ak_model.specs.ProgramStep.{due, event_turn, program_turn}
-use Rattle.ak_model.specs.Turns.{turn_of, turn, go_on, run}
+use Rattle.ak_model.specs.Turns.{turn_of, turn, go_on, run, unless_left, before_turns}
 use Rattle.ak_model.specs.Answers.{answer}
 use Rattle.ak_model.specs.Entering.{entered, resumed_by, interrupted_by, on_ok, on_exit}
 use Rattle.ak_model.specs.Trace.{Moment, step, trace}
-use Rattle.ak_model.specs.ProgramTurns.{ProgramTurn, turn_in, turns_after, turns_of_run, turns_of_move, program_turns}
+use Rattle.ak_model.specs.ProgramTurns.{ProgramTurn, turn_in, turns_in, turns_of_run, turns_of_move, program_turns}
 use Rattle.ak_model.specs.Premises.{IsCounted}
 use Rattle.ak_model.specs.Forced.{EachTurn}
 use Rattle.ak_model.proofs.TapeRuns.{after, runtime_count}
@@ -102,7 +102,7 @@ module _ (layout : Layout) where
       let rest = goes_grow past n (run_grows past n) (turn layout past control) in
       omega (arith, first, rest)
 
-  after_counts : (lp : ℕ) (past : History) (n : ℕ) → ((control : Control) → CountsEach (run layout past n control).control.count (turns_of_run layout lp past n control)) → (t : Turn) → CountsEach (go_on t (run layout past n)).control.count (turns_after t (turns_of_run layout lp past n))
+  after_counts : (lp : ℕ) (past : History) (n : ℕ) → ((control : Control) → CountsEach (run layout past n control).control.count (turns_of_run layout lp past n control)) → (t : Turn) → CountsEach (go_on t (run layout past n)).control.count (turns_in lp past (unless_left t (before_turns layout past n)))
   after_counts lp past n later (Goes next) = later next
   after_counts lp past n later (Leaves exit next) = tt
 
@@ -110,7 +110,7 @@ module _ (layout : Layout) where
   run_counts lp past zero control = tt
   run_counts lp past (suc n) control =
       let bound = (run layout past (suc n) control).control.count in
-      each_append bound (turn_in lp past control control.now) (turns_after (turn layout past control) (turns_of_run layout lp past n))
+      each_append bound (turn_in lp past control control.now) (turns_in lp past (unless_left (turn layout past control) (before_turns layout past n)))
       (each_up (after (turn layout past control)).count bound (turn_in lp past control control.now)
       (goes_grow past n (run_grows past n) (turn layout past control))
       (in_counts lp past control control.now))

@@ -16,11 +16,11 @@ use Rattle.ak_model.specs.Control.{Context, Program, Entry, Probe, Finish, Guard
 use Rattle.ak_model.specs.Turn.{Turn, Goes, Leaves}
 use Rattle.ak_model.specs.RuntimeStep.{runtime_turn}
 use Rattle.ak_model.specs.ProgramStep.{count_of, due, without_first, event_turn}
-use Rattle.ak_model.specs.Turns.{turn_of, turn, go_on, run}
+use Rattle.ak_model.specs.Turns.{turn_of, turn, go_on, run, unless_left, before_turns}
 use Rattle.ak_model.specs.Answers.{answer}
 use Rattle.ak_model.specs.Entering.{entered, resumed_by, interrupted_by, on_ok, on_exit}
 use Rattle.ak_model.specs.Trace.{Moment, step, trace}
-use Rattle.ak_model.specs.ProgramTurns.{ProgramTurn, turn_in, turns_after, turns_of_run, turns_of_move, program_turns}
+use Rattle.ak_model.specs.ProgramTurns.{ProgramTurn, turn_in, turns_in, turns_of_run, turns_of_move, program_turns}
 use Rattle.ak_model.specs.Forced.{EachTurn}
 use Rattle.ak_model.proofs.TapeRuns.{after, runtime_rest}
 use Rattle.ak_model.proofs.TurnFacts.{alone-append, alone-reverse}
@@ -99,14 +99,14 @@ module _ (layout : Layout) (Q : Event → Type 0) where
   run_rest past (suc n) control h =
       goes_rest past n (run_rest past n) (turn layout past control) (turn_rest past control control.now h)
 
-  after_holds : (lp : ℕ) (past : History) (n : ℕ) → ((control : Control) → Rest control → HoldsEach (turns_of_run layout lp past n control)) → (t : Turn) → Rest (after t) → HoldsEach (turns_after t (turns_of_run layout lp past n))
+  after_holds : (lp : ℕ) (past : History) (n : ℕ) → ((control : Control) → Rest control → HoldsEach (turns_of_run layout lp past n control)) → (t : Turn) → Rest (after t) → HoldsEach (turns_in lp past (unless_left t (before_turns layout past n)))
   after_holds lp past n later (Goes next) h = later next h
   after_holds lp past n later (Leaves exit next) h = tt
 
   run_holds : (lp : ℕ) (past : History) (n : ℕ) (control : Control) → Rest control → HoldsEach (turns_of_run layout lp past n control)
   run_holds lp past zero control h = tt
   run_holds lp past (suc n) control h =
-      alone-append (λ turn. HoldsAt turn.count turn.event) (turn_in lp past control control.now) (turns_after (turn layout past control) (turns_of_run layout lp past n))
+      alone-append (λ turn. HoldsAt turn.count turn.event) (turn_in lp past control control.now) (turns_in lp past (unless_left (turn layout past control) (before_turns layout past n)))
       (in_holds lp past control control.now h)
       (after_holds lp past n (run_holds lp past n) (turn layout past control) (turn_rest past control control.now h))
 

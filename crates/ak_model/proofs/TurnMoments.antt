@@ -15,10 +15,10 @@ use Rattle.ak_model.specs.History.{History}
 use Rattle.ak_model.specs.Inside.{inside}
 use Rattle.ak_model.specs.Control.{Context, Program, Entry, Probe, Finish, Guard, Leave, Control}
 use Rattle.ak_model.specs.Turn.{Turn, Goes, Leaves}
-use Rattle.ak_model.specs.Turns.{turn}
+use Rattle.ak_model.specs.Turns.{turn, unless_left, before_turns}
 use Rattle.ak_model.specs.Trace.{Moment, trace}
-use Rattle.ak_model.specs.Moments.{unless_left, before_turns, turn_moments, moments}
-use Rattle.ak_model.specs.ProgramTurns.{ProgramTurn, turn_at, turn_in, turns_after, turns_of_run, turns_of_move, program_turns}
+use Rattle.ak_model.specs.Moments.{turn_moments, moments}
+use Rattle.ak_model.specs.ProgramTurns.{ProgramTurn, turn_at, turn_in, turns_in, turns_of_run, turns_of_move, program_turns}
 use Rattle.ak_model.specs.Forced.{EachTurn, queue_by}
 use Rattle.ak_model.specs.Premises.{MissesFit}
 use Rattle.ak_model.specs.Orderly.{IsOrderly, TurnIsOrderly}
@@ -90,7 +90,7 @@ module _ (layout : Layout) (tape : List Event) (test : Moment → Bool) where
       by_now control older (Some Guard) h f = h
       by_now control older (Some (Leave b a)) h f = h
 
-      go_each : (n : ℕ) (control : Control) (older : List ProgramTurn) (t : Turn) → Kept (trace layout tape moves).control control → TurnKeeps control t → TurnIsOrderly layout (queue_by layout older) t → (after t).count ≡ completed older → EachTurn P older → list_all test_at (unless_left t (before_turns layout past n)) ≡ true → ((next : Control) → RunsEach n older next) → EachTurn P (reverse (turns_after t (turns_of_run layout lp past n)) ++ older)
+      go_each : (n : ℕ) (control : Control) (older : List ProgramTurn) (t : Turn) → Kept (trace layout tape moves).control control → TurnKeeps control t → TurnIsOrderly layout (queue_by layout older) t → (after t).count ≡ completed older → EachTurn P older → list_all test_at (unless_left t (before_turns layout past n)) ≡ true → ((next : Control) → RunsEach n older next) → EachTurn P (reverse (turns_in lp past (unless_left t (before_turns layout past n))) ++ older)
       go_each n control older (Goes next) k keeps o c h tests later =
           later next (record { kept = then_kept (trace layout tape moves).control control next k keeps; orderly = o; counted = c; so_far = h }) tests
       go_each n control older (Leaves exit next) k keeps o c h tests later = h
@@ -101,7 +101,7 @@ module _ (layout : Layout) (tape : List Event) (test : Moment → Bool) where
           let parts = and_parts (test_at control) _ tests in
           let t : Turn = turn layout past control in
           let here : List ProgramTurn = turn_in lp past control control.now in
-          let more : List ProgramTurn = turns_after t (turns_of_run layout lp past n) in
+          let more : List ProgramTurn = turns_in lp past (unless_left t (before_turns layout past n)) in
           let fits : TurnIsOrderly layout (queue_by layout (reverse here ++ older)) t =
           subst (λ q. TurnIsOrderly layout q t) (turn_more layout lp past control control.now older) (turn_fits layout (queue_by layout older) (clusters_fit layout valid) past control old.orderly) in
           let now : EachTurn P (reverse here ++ older) = by_now control older control.now old.so_far (λ e. each moves lp control older (record {

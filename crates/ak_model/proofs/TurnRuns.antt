@@ -7,11 +7,11 @@ use Rattle.ak_core.specs.declared.moves.Exit.{Exit}
 use Rattle.ak_model.specs.History.{History}
 use Rattle.ak_model.specs.Control.{Program, Control}
 use Rattle.ak_model.specs.Turn.{Goes, Leaves}
-use Rattle.ak_model.specs.Turns.{turn}
+use Rattle.ak_model.specs.Turns.{turn, unless_left, before_turns}
 use Rattle.ak_core.specs.declared.event.Event.{Event}
 use Rattle.ak_core.specs.declared.moves.Move.{Move}
 use Rattle.ak_model.specs.Trace.{trace}
-use Rattle.ak_model.specs.ProgramTurns.{ProgramTurn, turn_at, turn_in, turns_after, turns_of_run, turns_of_move, program_turns}
+use Rattle.ak_model.specs.ProgramTurns.{ProgramTurn, turn_at, turn_in, turns_in, turns_of_run, turns_of_move, program_turns}
 
 module _ (layout : Layout) (lp : ℕ) (past : History) where
   -- ---- One turn
@@ -19,12 +19,12 @@ module _ (layout : Layout) (lp : ℕ) (past : History) where
   -- a turn that goes on
   pub turns-goes : (n : ℕ) (control next : Control) → turn layout past control ≡ Goes next → turns_of_run layout lp past (suc n) control ≡ turn_in lp past control control.now ++ turns_of_run layout lp past n next
   turns-goes n control next e =
-      ap (λ t. turn_in lp past control control.now ++ turns_after t (turns_of_run layout lp past n)) e
+      ap (λ t. turn_in lp past control control.now ++ turns_in lp past (unless_left t (before_turns layout past n))) e
 
   -- a turn that leaves
   pub turns-leaves : (n : ℕ) (control next : Control) (exit : Exit) → turn layout past control ≡ Leaves exit next → turns_of_run layout lp past (suc n) control ≡ turn_in lp past control control.now
   turns-leaves n control next exit e =
-      ap (λ t. turn_in lp past control control.now ++ turns_after t (turns_of_run layout lp past n)) e
+      ap (λ t. turn_in lp past control control.now ++ turns_in lp past (unless_left t (before_turns layout past n))) e
       ∙ append-nil (turn_in lp past control control.now)
 
   -- the context of a turn of the program

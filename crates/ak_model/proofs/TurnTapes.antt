@@ -12,10 +12,10 @@ use Rattle.ak_model.specs.Inside.{inside}
 use Rattle.ak_model.specs.Control.{Context, Program, Entry, Probe, Finish, Guard, Leave, Control}
 use Rattle.ak_model.specs.Turn.{Turn, Goes, Leaves}
 use Rattle.ak_model.specs.ProgramStep.{due, program_turn}
-use Rattle.ak_model.specs.Turns.{turn_of, turn, go_on, run}
+use Rattle.ak_model.specs.Turns.{turn_of, turn, go_on, run, unless_left, before_turns}
 use Rattle.ak_model.specs.Entering.{on_exit}
 use Rattle.ak_model.specs.Trace.{Moment, step, trace}
-use Rattle.ak_model.specs.ProgramTurns.{ProgramTurn, turn_in, turns_after, turns_of_run, turns_of_move, program_turns}
+use Rattle.ak_model.specs.ProgramTurns.{ProgramTurn, turn_in, turns_in, turns_of_run, turns_of_move, program_turns}
 use Rattle.ak_model.proofs.Tapes.{on_turn}
 use Rattle.ak_model.proofs.TapeRuns.{after, tape_map, moment_map, turn_ok, goes_back, run_back, trace_maps, trace_back}
 use Rattle.ak_model.proofs.Placed.{placed}
@@ -35,7 +35,7 @@ module _ (layout : Layout) (g : List Event → List Event) (P : List Event → �
   in_ok lp past control (Some Guard) h = refl
   in_ok lp past control (Some (Leave b a)) h = refl
 
-  after_ok : (lp : ℕ) (past : History) (n : ℕ) → ((control : Control) → Good (run layout past n control).control → turns_of_run layout lp past n (tape_map g control) ≡ turns_of_run layout lp past n control) → (t : Turn) → Good (go_on t (run layout past n)).control → turns_after (on_turn (tape_map g) t) (turns_of_run layout lp past n) ≡ turns_after t (turns_of_run layout lp past n)
+  after_ok : (lp : ℕ) (past : History) (n : ℕ) → ((control : Control) → Good (run layout past n control).control → turns_of_run layout lp past n (tape_map g control) ≡ turns_of_run layout lp past n control) → (t : Turn) → Good (go_on t (run layout past n)).control → turns_in lp past (unless_left (on_turn (tape_map g) t) (before_turns layout past n)) ≡ turns_in lp past (unless_left t (before_turns layout past n))
   after_ok lp past n earlier (Goes next) h = earlier next h
   after_ok lp past n earlier (Leaves exit next) h = refl
 
@@ -43,8 +43,8 @@ module _ (layout : Layout) (g : List Event → List Event) (P : List Event → �
   run_turns_ok lp past zero control h = refl
   run_turns_ok lp past (suc n) control h =
       let good = goes_back layout g P program_ok program_back past n (run_back layout g P program_ok program_back past n) (turn layout past control) h in
-      ap (λ made. made ++ turns_after (turn layout past (tape_map g control)) (turns_of_run layout lp past n)) (in_ok lp past control control.now good)
-      ∙ ap (λ t. turn_in lp past control control.now ++ turns_after t (turns_of_run layout lp past n)) (turn_ok layout g P program_ok program_back past control control.now good)
+      ap (λ made. made ++ turns_in lp past (unless_left (turn layout past (tape_map g control)) (before_turns layout past n))) (in_ok lp past control control.now good)
+      ∙ ap (λ t. turn_in lp past control control.now ++ turns_in lp past (unless_left t (before_turns layout past n))) (turn_ok layout g P program_ok program_back past control control.now good)
       ∙ ap (λ made. turn_in lp past control control.now ++ made) (after_ok lp past n (run_turns_ok lp past n) (turn layout past control) h)
 
   -- a run whose processor is there and inside

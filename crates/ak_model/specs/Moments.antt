@@ -1,25 +1,12 @@
 -- Every moment of a trace: after the build, after each move, and before each turn of a run.
-use Rattle.std.specs.Prelude.{ℕ, zero, suc, List, [], ◌∷◌, ◌++◌, map, reverse, if◌then◌else◌}
+use Rattle.std.specs.Prelude.{List, [], ◌∷◌, ◌++◌, map, reverse, if◌then◌else◌}
 use Rattle.ak_core.specs.Layout.{Layout}
 use Rattle.ak_core.specs.declared.event.Event.{Event}
 use Rattle.ak_core.specs.declared.moves.Move.{Move}
 use Rattle.ak_core.specs.declared.moves.Move.TheVariants.{Run}
-use Rattle.ak_model.specs.History.{History}
 use Rattle.ak_model.specs.Inside.{inside}
-use Rattle.ak_model.specs.Control.{Control}
-use Rattle.ak_model.specs.Turn.{Turn, Goes, Leaves}
-use Rattle.ak_model.specs.Turns.{turn}
+use Rattle.ak_model.specs.Turns.{before_turns}
 use Rattle.ak_model.specs.Trace.{Moment, built, trace}
-
--- what comes after a turn, unless it left
-abbrev pub unless_left : Turn → (Control → List Control) → List Control
-unless_left (Goes control) next = next control
-unless_left (Leaves exit control) next = []
-
--- the control state before each turn of a run, in order
-abbrev pub before_turns : Layout → History → ℕ → Control → List Control
-before_turns layout past zero control = []
-before_turns layout past (suc n) control = control ∷ unless_left (turn layout past control) (before_turns layout past n)
 
 -- the moments before the turns of a move, the newest first
 abbrev pub turn_moments : Layout → Moment → Move → List Moment

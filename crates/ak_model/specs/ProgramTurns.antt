@@ -1,5 +1,5 @@
 -- The turns of the program that the kernel's moves make, each with what is known of it before its move.
-use Rattle.std.specs.Prelude.{ℕ, zero, suc, List, [], ◌∷◌, ◌++◌, reverse, Option, Some, if◌then◌else◌}
+use Rattle.std.specs.Prelude.{ℕ, List, [], ◌∷◌, ◌++◌, reverse, flat_map, Option, Some, if◌then◌else◌}
 use Rattle.ak_core.specs.Layout.{Layout}
 use Rattle.ak_core.specs.declared.moves.Move.{Move}
 use Rattle.ak_core.specs.declared.moves.Move.TheVariants.{Run}
@@ -7,9 +7,8 @@ use Rattle.ak_core.specs.declared.event.Event.{Event}
 use Rattle.ak_model.specs.History.{History}
 use Rattle.ak_model.specs.Inside.{inside}
 use Rattle.ak_model.specs.Control.{Context, Program, Control}
-use Rattle.ak_model.specs.Turn.{Turn, Goes, Leaves}
 use Rattle.ak_model.specs.ProgramStep.{due}
-use Rattle.ak_model.specs.Turns.{turn}
+use Rattle.ak_model.specs.Turns.{before_turns}
 use Rattle.ak_model.specs.Trace.{Moment, trace}
 
 -- a turn of the program
@@ -29,16 +28,13 @@ abbrev pub turn_in : ℕ → History → Control → Option Context → List Pro
 turn_in lp past control (Some Program) = turn_at lp past control ∷ []
 turn_in lp past control _ = []
 
--- the program turns after a turn, which are none where it left
-abbrev pub turns_after : Turn → (Control → List ProgramTurn) → List ProgramTurn
-turns_after (Goes control) next = next control
-turns_after (Leaves exit control) next = []
+-- the program turns in these control states, in order
+abbrev pub turns_in : ℕ → History → List Control → List ProgramTurn
+turns_in lp past controls = flat_map (λ control. turn_in lp past control control.now) controls
 
 -- the program turns of a run of up to n turns, in order
 abbrev pub turns_of_run : Layout → ℕ → History → ℕ → Control → List ProgramTurn
-turns_of_run layout lp past zero control = []
-turns_of_run layout lp past (suc n) control =
-    turn_in lp past control control.now ++ turns_after (turn layout past control) (turns_of_run layout lp past n)
+turns_of_run layout lp past n control = turns_in lp past (before_turns layout past n control)
 
 -- the program turns of a move, the newest first: those of a run of a processor that is inside
 abbrev pub turns_of_move : Layout → Moment → Move → List ProgramTurn

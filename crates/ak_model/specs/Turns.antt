@@ -1,5 +1,5 @@
 -- Turns of the processor that is inside, and runs of them.
-use Rattle.std.specs.Prelude.{ℕ, zero, suc, Option, Some, None}
+use Rattle.std.specs.Prelude.{ℕ, zero, suc, List, [], ◌∷◌, Option, Some, None}
 use Rattle.ak_core.specs.Layout.{Layout}
 use Rattle.ak_core.specs.declared.moves.Exit.{Exit}
 use Rattle.ak_model.specs.History.{History}
@@ -32,3 +32,13 @@ go_on (Leaves exit control) next = record { exit = exit; control = control }
 abbrev pub run : Layout → History → ℕ → Control → Ran
 run layout past zero control = record { exit = Exit.Still; control = control }
 run layout past (suc n) control = go_on (turn layout past control) (run layout past n)
+
+-- the control states from after a turn on, which are none where it left
+abbrev pub unless_left : Turn → (Control → List Control) → List Control
+unless_left (Goes control) next = next control
+unless_left (Leaves exit control) next = []
+
+-- the control state before each turn of a run of up to n turns, in order
+abbrev pub before_turns : Layout → History → ℕ → Control → List Control
+before_turns layout past zero control = []
+before_turns layout past (suc n) control = control ∷ unless_left (turn layout past control) (before_turns layout past n)
