@@ -408,13 +408,13 @@ module _ (layout : Layout) (valid : IsValid layout) (tape : List Event) (misses 
   broken_by (turn ∷ older) runs stop p kind e h last forced named =
       let f = forced_at runs stop turn older turn.event last.1 forced.0 in
       let t : Touch = f.access in
-      let may = f.faults.may_fault in
+      let may = f.faults.unkept.may_fault in
       let low : t.page.0 < pages layout = low_at layout (touches_next layout (runs turn.count)) may.place t (next_low layout (runs turn.count)) may.stands in
       let allowed : permits layout t.page.0 t.kind ≡ true = not-false (permits layout t.page.0 t.kind) may.permitted in
       let lost = lost_then t (subst (λ past. touch_walkable layout past t ≡ false) last.0 may.unmapped) in
       let known = subst (FaultAt layout fault (returned_at here.past) here.control.queue) h.says.0 (kept.at h.says.1) in
       let inside = subst (λ queue. is_in queue (cluster_at layout t.page.0) ≡ true) (queue_then turn older e last.1 known.1 h.says.0) f.inside in
-      subst (λ x. Blamed (Unmapped x.page x.kind)) (named t f.named) (program_blamed t.page t.kind lost known.0 low allowed inside (fault-told layout valid tape misses stopping Broke h.says.1 (λ m. m) h.says.0))
+      subst (λ x. Blamed (Unmapped x.page x.kind)) (named t f.faults.named) (program_blamed t.page t.kind lost known.0 low allowed inside (fault-told layout valid tape misses stopping Broke h.says.1 (λ m. m) h.says.0))
 
 -- ---- A journal's stop
 

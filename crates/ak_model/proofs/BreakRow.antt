@@ -87,9 +87,11 @@ broken_sound = record {
     turns_break = (
       record {
         access = touch 0 Exec;
-        faults = record { may_fault = record { place = 0; stands = refl; permitted = refl; unmapped = refl; earlier = refl }; unkept = refl };
+        faults = record {
+          unkept = record { may_fault = record { place = 0; stands = refl; permitted = refl; unmapped = refl; earlier = refl }; unkept = refl };
+          named = (refl, refl);
+        };
         inside = refl;
-        named = (refl, refl);
       },
       (tt, (tt, (tt, tt))),
     );
@@ -115,7 +117,8 @@ early_not : Sound jump image_a early → ⊥
 unfolding early jump filled
 early_not h =
     let break = h.breaks.turns_break.0 in
-    still_kept break.faults.may_fault.place break.access break.faults.may_fault.stands break.faults.unkept
+    let may = break.faults.unkept in
+    still_kept may.may_fault.place break.access may.may_fault.stands may.unkept
 
 -- a stop that blames another move
 unfoldable misblamed : Journal

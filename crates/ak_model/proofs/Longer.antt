@@ -11,9 +11,9 @@ use Rattle.ak_model.specs.Ends.{Runs}
 use Rattle.ak_model.specs.ProgramTurns.{ProgramTurn}
 use Rattle.ak_model.specs.Reached.{reached, touches_next, touches_at, ComesTo, permitted_touches, MayComplete}
 use Rattle.ak_model.specs.MayFault.{may_succeed, MayFault}
-use Rattle.ak_model.specs.Forced.{EachTurn, ReachedBy, BreakIsForced, BrokenBy}
+use Rattle.ak_model.specs.Forced.{EachTurn, ReachedBy, queue_by, BreakIsForced, BrokenBy}
 use Rattle.ak_model.proofs.Answered.{flat_run-longer}
-use Rattle.ak_model.proofs.TurnFacts.{each-from, each-from_both}
+use Rattle.ak_model.proofs.TurnFacts.{each-from, each-from_both, broken-from, faults-from}
 
 -- runs by which the turn's instruction has the same accesses
 module _ (layout : Layout) (runs runs' : Runs) (turn : ProgramTurn) (same : touches_at layout runs' turn ≡ touches_at layout runs turn) where
@@ -68,14 +68,7 @@ module _ (layout : Layout) (image returned more : List ℕ) where
 
   pub break-longer : (turn : ProgramTurn) (older : List ProgramTurn) → BreakIsForced layout before turn older → BreakIsForced layout longer turn older
   break-longer turn older h =
-      record { access = h.access; faults = faults-longer turn h.access h.faults; inside = h.inside }
-
-  broken_longer : (turn : ProgramTurn) (older : List ProgramTurn) (event : Option Event) → BrokenBy layout before turn older event → BrokenBy layout longer turn older event
-  broken_longer turn older None h = tt
-  broken_longer turn older (Some (Call i b a)) h = tt
-  broken_longer turn older (Some (Trap i v)) h = tt
-  broken_longer turn older (Some (Miss i c)) h = tt
-  broken_longer turn older (Some (Break i)) h = break-longer turn older h
+      faults-from layout (queue_by layout older) (MayFault layout before turn) (MayFault layout longer turn) (faults-longer turn) h
 
   -- the flat run comes to each of these turns
   abbrev pub ComesToEach : List ProgramTurn → Type 0
@@ -96,4 +89,4 @@ module _ (layout : Layout) (image returned more : List ℕ) where
   pub each-broken-longer : (turns : List ProgramTurn) → EachTurn (λ turn. λ older. BrokenBy layout before turn older turn.event) turns → EachTurn (λ turn. λ older. BrokenBy layout longer turn older turn.event) turns
   each-broken-longer turns h =
       each-from (λ turn. λ older. BrokenBy layout before turn older turn.event) (λ turn. λ older. BrokenBy layout longer turn older turn.event)
-      (λ turn older here. broken_longer turn older turn.event here) turns h
+      (λ turn older here. broken-from (BreakIsForced layout before turn older) (BreakIsForced layout longer turn older) turn.event (break-longer turn older) here) turns h

@@ -28,6 +28,7 @@ use Rattle.ak_model.specs.Forced.{queue_by, EachTurn, BreakIsForced, BrokenBy}
 use Rattle.ak_model.specs.Premises.{MissesFit}
 use Rattle.ak_model.specs.Honours.{keeps_mapped, keeps_fetched, entered_since_ask, entered_after, resumes_early, never_resumes_early, Honours}
 use Rattle.ak_model.specs.Orderly.{ContextFits, StackFits, IsOrderly, TurnIsOrderly, OrderlyAfter}
+use Rattle.ak_model.proofs.TurnFacts.{not-broken_by}
 use Rattle.ak_model.proofs.Someone.{other, is_someone, outside_ok, IsQuiet, quiet_ok, quiet_handle}
 use Rattle.ak_model.proofs.OrderlySteps.{ClustersFit}
 use Rattle.ak_model.proofs.OrderlyTurns.{turn_fits}
@@ -35,7 +36,6 @@ use Rattle.ak_model.proofs.ValidClusters.{clusters_fit}
 use Rattle.ak_model.proofs.Orderly.{trace_is_orderly}
 use Rattle.ak_model.proofs.Calm.{StackCalm, GuardFree, IsCalm, TurnCalm}
 use Rattle.ak_model.proofs.Honoured.{turn_calm}
-use Rattle.ak_core.specs.declared.event.Event.TheVariants.{Call, Miss, Trap, Break}
 use Rattle.ak_model.specs.Ends.{Runs}
 use Rattle.ak_model.specs.Blamed.{is_break}
 use Rattle.ak_model.specs.ProgramStep.{due}
@@ -59,13 +59,6 @@ module _ (layout : Layout) (fit : ClustersFit layout) (runs : Runs) where
   older_broken [] ys h = h
   older_broken (x ∷ xs) ys h = older_broken xs ys h.1
 
-  not_by : (lp : ℕ) (past : History) (count : ℕ) (event : Option Event) (older : List ProgramTurn) → (BreakIsForced layout runs (record { lp = lp; past = past; count = count; event = event }) older → ⊥) → BrokenBy layout runs (record { lp = lp; past = past; count = count; event = event }) older event → is_break event ≡ false
-  not_by lp past count None older never h = refl
-  not_by lp past count (Some (Call i b a)) older never h = refl
-  not_by lp past count (Some (Miss i c)) older never h = refl
-  not_by lp past count (Some (Trap i v)) older never h = refl
-  not_by lp past count (Some (Break i)) older never h = absurd (never h)
-
   -- ---- A run
 
   abbrev mapped_at : History → Control → Bool
@@ -88,7 +81,7 @@ module _ (layout : Layout) (fit : ClustersFit layout) (runs : Runs) where
     unbroken : (older : List ProgramTurn) (control : Control) → IsOrderly layout (queue_by layout older) true control → mapped_at past control ≡ true → Broken (reverse (turn_in lp past control control.now) ++ older) → control.now ≡ Some Program → is_break (due control.count control.rest) ≡ false
     unbroken older control orderly m b n =
         let here : Broken (turn_at lp past control ∷ older) = subst (λ now. Broken (reverse (turn_in lp past control now) ++ older)) n b in
-        not_by lp past control.count (due control.count control.rest) older (not-broken layout runs older lp past control orderly n someone m) here.0
+        not-broken_by (BreakIsForced layout runs (turn_at lp past control) older) (due control.count control.rest) (not-broken layout runs older lp past control orderly n someone m) here.0
 
     run_calm : (n : ℕ) (older : List ProgramTurn) (control : Control) → RunsCalm n older control
     run_calm zero older control orderly old b m f = inl (refl, old)

@@ -1,12 +1,16 @@
--- Facts on each of a list of turns, the newest first.
-use Rattle.std.proofs.Common.{◌≡◌, List, [], ◌∷◌, ◌++◌, refl, ap, sym, subst}
-use Rattle.std.specs.Prelude.{reverse, filter_map, None}
+-- Facts on each of a list of turns, the newest first, and on what breaks.
+use Rattle.std.proofs.Common.{◌≡◌, ℕ, List, [], ◌∷◌, ◌++◌, refl, ap, sym, subst}
+use Rattle.std.specs.Prelude.{false, reverse, filter_map, Option, Some, None}
 use Rattle.std.proofs.lemmas.List.{reverse-append}
 use Rattle.ak_core.specs.Layout.{Layout}
+use Rattle.ak_core.specs.Mem.{Touch}
+use Rattle.ak_core.specs.declared.event.Event.{Event}
+use Rattle.ak_core.specs.declared.event.Event.TheVariants.{Call, Miss, Trap, Break}
 use Rattle.ak_model.specs.Queue.{queue_after}
 use Rattle.ak_model.specs.Build.{queue_at_build}
 use Rattle.ak_model.specs.ProgramTurns.{ProgramTurn}
-use Rattle.ak_model.specs.Forced.{EachTurn, missed_by, queue_by}
+use Rattle.ak_model.specs.Forced.{EachTurn, missed_by, queue_by, FaultsIn, IfBroken}
+use Rattle.ak_model.specs.Blamed.{is_break}
 use Rattle.ak_model.proofs.TurnRuns.{newest-first}
 
 -- what follows for each turn from a fact on it
@@ -49,3 +53,25 @@ none_missed (turn ∷ older) h = rw h.0 (none_missed older h.1)
 -- the build's clusters are in
 pub queue_by-none : (layout : Layout) (turns : List ProgramTurn) → EachTurn (λ turn. λ older. missed_by turn.event ≡ None) turns → queue_by layout turns ≡ queue_at_build layout.build layout
 queue_by-none layout turns h = ap (λ misses. queue_after layout (reverse misses)) (none_missed turns h)
+
+-- ---- Breaks
+
+-- what follows of a break from a fact on it
+pub broken-from : (P Q : Type 0) (event : Option Event) → (P → Q) → IfBroken event P → IfBroken event Q
+broken-from P Q None from h = tt
+broken-from P Q (Some (Call i b a)) from h = tt
+broken-from P Q (Some (Miss i c)) from h = tt
+broken-from P Q (Some (Trap i v)) from h = tt
+broken-from P Q (Some (Break i)) from h = from h
+
+-- there is none where the fact does not hold
+pub not-broken_by : (P : Type 0) (event : Option Event) → (P → ⊥) → IfBroken event P → is_break event ≡ false
+not-broken_by P None never h = refl
+not-broken_by P (Some (Call i b a)) never h = refl
+not-broken_by P (Some (Miss i c)) never h = refl
+not-broken_by P (Some (Trap i v)) never h = refl
+not-broken_by P (Some (Break i)) never h = absurd (never h)
+
+-- an access that may fault by one word may by a weaker one
+pub faults-from : (layout : Layout) (queue : List ℕ) (P Q : Touch → Type 0) → ((t : Touch) → P t → Q t) → FaultsIn layout queue P → FaultsIn layout queue Q
+faults-from layout queue P Q from h = record { access = h.access; faults = from h.access h.faults; inside = h.inside }

@@ -5,7 +5,6 @@ use Rattle.std.proofs.lemmas.Bool.{ltb-true, or_from}
 use Rattle.ak_core.specs.Layout.{Layout, IsValid}
 use Rattle.ak_core.specs.Journal.{Journal}
 use Rattle.ak_core.specs.declared.event.Event.{Event}
-use Rattle.ak_core.specs.declared.event.Event.TheVariants.{Call, Miss, Trap, Break}
 use Rattle.ak_core.specs.declared.moves.Move.{Move}
 use Rattle.ak_model.specs.Build.{queue_at_build}
 use Rattle.ak_model.specs.History.{History}
@@ -23,7 +22,7 @@ use Rattle.ak_model.specs.Stopped.{IsStop}
 use Rattle.ak_model.specs.Sound.{Sound}
 use Rattle.ak_model.proofs.Placed.{placed}
 use Rattle.ak_model.proofs.Someone.{is_someone}
-use Rattle.ak_model.proofs.TurnFacts.{each-from_both}
+use Rattle.ak_model.proofs.TurnFacts.{each-from_both, not-broken_by}
 use Rattle.ak_model.proofs.EventsTaken.{with_event, taken, trace-taken, misses-fit}
 use Rattle.ak_model.proofs.NoStop.{no_stop}
 use Rattle.ak_model.proofs.Unbroken.{not-broken}
@@ -45,13 +44,6 @@ taken_unbroken (turn ∷ older) rest h k = taken_unbroken older (with_event turn
 -- ---- Turns
 
 module _ (layout : Layout) (runs : Runs) where
-  not_by : (turn : ProgramTurn) (older : List ProgramTurn) (event : Option Event) → (BreakIsForced layout runs turn older → ⊥) → BrokenBy layout runs turn older event → is_break event ≡ false
-  not_by turn older None never h = refl
-  not_by turn older (Some (Call i b a)) never h = refl
-  not_by turn older (Some (Miss i c)) never h = refl
-  not_by turn older (Some (Trap i v)) never h = refl
-  not_by turn older (Some (Break i)) never h = absurd (never h)
-
   module _ (valid : IsValid layout) (tape : List Event) (misses : MissesFit layout (queue_at_build layout.build layout) tape) where
     never_forced : (moves : List Move) (lp : ℕ) (control : Control) (older : List ProgramTurn) → StandsAt layout tape (keeps_mapped layout) moves lp control older → BreakIsForced layout runs (turn_at lp (trace layout tape moves).past control) older → ⊥
     never_forced moves lp control older at =
@@ -63,7 +55,7 @@ module _ (layout : Layout) (runs : Runs) where
     pub turns-unbroken : (moves : List Move) → EachTurn (λ turn. λ older. BrokenBy layout runs turn older turn.event) (program_turns layout tape moves) → Honours layout tape moves → EachTurn (λ turn. λ older. is_break turn.event ≡ false) (program_turns layout tape moves)
     turns-unbroken moves b h =
         each-from_both (λ turn. λ older. BreakIsForced layout runs turn older → ⊥) (λ turn. λ older. BrokenBy layout runs turn older turn.event) (λ turn. λ older. is_break turn.event ≡ false)
-        (λ turn older never forced. not_by turn older turn.event never forced) (program_turns layout tape moves)
+        (λ turn older never forced. not-broken_by (BreakIsForced layout runs turn older) turn.event never forced) (program_turns layout tape moves)
         (turns-each layout tape (keeps_mapped layout) valid misses (λ turn. λ older. BreakIsForced layout runs turn older → ⊥) never_forced moves h.mapped) b
 
 -- ---- Journals

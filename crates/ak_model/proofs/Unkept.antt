@@ -12,30 +12,26 @@ use Rattle.ak_model.specs.Flat.{flat_run}
 use Rattle.ak_model.specs.Ends.{Runs}
 use Rattle.ak_model.specs.ProgramTurns.{ProgramTurn}
 use Rattle.ak_model.specs.Reached.{touches_at, ComesTo}
-use Rattle.ak_model.specs.MayFault.{may_succeed}
-use Rattle.ak_model.specs.Forced.{EachTurn, IfCarriedOut, BrokenBy}
+use Rattle.ak_model.specs.MayFault.{may_succeed, MayFault}
+use Rattle.ak_model.specs.Forced.{EachTurn, IfCarriedOut, queue_by, BreakIsForced, BrokenBy}
 use Rattle.ak_model.specs.Kept.{completes_by, is_same_stay, completed_since, granted_since, granted_before, is_kept, MayFaultUnkept}
 use Rattle.ak_model.specs.Misses.{MissedBy}
-use Rattle.ak_model.specs.Stopped.{BrokenUnkeptBy}
+use Rattle.ak_model.specs.Stopped.{MayBreak, BreakIsForcedUnkept, BrokenUnkeptBy}
 use Rattle.ak_model.proofs.Longer.{faults-comes, touches-longer}
-use Rattle.ak_model.proofs.TurnFacts.{each-from}
+use Rattle.ak_model.proofs.TurnFacts.{each-from, broken-from, faults-from}
 
 -- ---- Without what is kept
 
 module _ (layout : Layout) (runs : Runs) (stop : Option Stop) where
-  broken_without : (turn : ProgramTurn) (older : List ProgramTurn) (event : Option Event) → BrokenUnkeptBy layout runs stop turn older event → BrokenBy layout runs turn older event
-  broken_without turn older None h = tt
-  broken_without turn older (Some (Call i b a)) h = tt
-  broken_without turn older (Some (Miss i c)) h = tt
-  broken_without turn older (Some (Trap i v)) h = tt
-  broken_without turn older (Some (Break i)) h =
-      record { access = h.access; faults = h.faults.may_fault; inside = h.inside }
+  forced_without : (turn : ProgramTurn) (older : List ProgramTurn) → BreakIsForcedUnkept layout runs stop turn older → BreakIsForced layout runs turn older
+  forced_without turn older h =
+      faults-from layout (queue_by layout older) (MayBreak layout runs stop turn older) (MayFault layout runs turn) (λ t may. may.unkept.may_fault) h
 
   -- each break that is forced where translations are kept is forced
   pub each-broken-without : (turns : List ProgramTurn) → EachTurn (λ turn. λ older. BrokenUnkeptBy layout runs stop turn older turn.event) turns → EachTurn (λ turn. λ older. BrokenBy layout runs turn older turn.event) turns
   each-broken-without turns h =
       each-from (λ turn. λ older. BrokenUnkeptBy layout runs stop turn older turn.event) (λ turn. λ older. BrokenBy layout runs turn older turn.event)
-      (λ turn older here. broken_without turn older turn.event here) turns h
+      (λ turn older here. broken-from (BreakIsForcedUnkept layout runs stop turn older) (BreakIsForced layout runs turn older) turn.event (forced_without turn older) here) turns h
 
 -- ---- With more values returned by calls
 
@@ -107,13 +103,10 @@ module _ (layout : Layout) (image returned more : List ℕ) where
   missed_longer turn older (Some (Miss i c)) came h =
       record { access = h.access; faults = unkept_longer turn older h.access came h.faults; cluster = h.cluster; out = h.out }
 
-  broken_longer : (stop : Option Stop) (turn : ProgramTurn) (older : List ProgramTurn) (event : Option Event) → CarriedOutEach older → BrokenUnkeptBy layout before stop turn older event → BrokenUnkeptBy layout longer stop turn older event
-  broken_longer stop turn older None came h = tt
-  broken_longer stop turn older (Some (Call i b a)) came h = tt
-  broken_longer stop turn older (Some (Trap i v)) came h = tt
-  broken_longer stop turn older (Some (Miss i c)) came h = tt
-  broken_longer stop turn older (Some (Break i)) came h =
-      record { access = h.access; faults = unkept_longer turn older h.access came h.faults; inside = h.inside; named = h.named }
+  forced_longer : (stop : Option Stop) (turn : ProgramTurn) (older : List ProgramTurn) → CarriedOutEach older → BreakIsForcedUnkept layout before stop turn older → BreakIsForcedUnkept layout longer stop turn older
+  forced_longer stop turn older came h =
+      faults-from layout (queue_by layout older) (MayBreak layout before stop turn older) (MayBreak layout longer stop turn older)
+      (λ t may. record { unkept = unkept_longer turn older t came may.unkept; named = may.named }) h
 
   -- each of these turns that misses
   pub each-missed-longer : (turns : List ProgramTurn) → CarriedOutEach turns → EachTurn (λ turn. λ older. MissedBy layout before turn older turn.event) turns → EachTurn (λ turn. λ older. MissedBy layout longer turn older turn.event) turns
@@ -125,4 +118,4 @@ module _ (layout : Layout) (image returned more : List ℕ) where
   pub each-broken-unkept-longer : (stop : Option Stop) (turns : List ProgramTurn) → CarriedOutEach turns → EachTurn (λ turn. λ older. BrokenUnkeptBy layout before stop turn older turn.event) turns → EachTurn (λ turn. λ older. BrokenUnkeptBy layout longer stop turn older turn.event) turns
   each-broken-unkept-longer stop [] came h = tt
   each-broken-unkept-longer stop (turn ∷ older) came h =
-      (broken_longer stop turn older turn.event came.1 h.0, each-broken-unkept-longer stop older came.1 h.1)
+      (broken-from (BreakIsForcedUnkept layout before stop turn older) (BreakIsForcedUnkept layout longer stop turn older) turn.event (forced_longer stop turn older came.1) h.0, each-broken-unkept-longer stop older came.1 h.1)

@@ -160,8 +160,8 @@ other_page_not : BreaksAreForcedUnkept bytes_a image_a other_page → ⊥
 unfolding other_page bytes_a code_a filled
 other_page_not h =
     let break = h.turns_break.0 in
-    let is : break.access ≡ touch 0 Exec = only_page break.faults.may_fault.place break.access break.faults.may_fault.stands in
-    let named : break.access.page ≡ page 6 = break.named.0 in
+    let is : break.access ≡ touch 0 Exec = only_page break.faults.unkept.may_fault.place break.access break.faults.unkept.may_fault.stands in
+    let named : break.access.page ≡ page 6 = break.faults.named.0 in
     let no : zero ≡ suc 5 = sym (ap (λ t. t.page.0) is) ∙ ap (λ p. p.0) named in
     cc
 
@@ -169,8 +169,8 @@ other_kind_not : BreaksAreForcedUnkept bytes_a image_a other_kind → ⊥
 unfolding other_kind bytes_a code_a filled
 other_kind_not h =
     let break = h.turns_break.0 in
-    let is : break.access ≡ touch 0 Exec = only_page break.faults.may_fault.place break.access break.faults.may_fault.stands in
-    let named : break.access.kind ≡ Write = break.named.1 in
+    let is : break.access ≡ touch 0 Exec = only_page break.faults.unkept.may_fault.place break.access break.faults.unkept.may_fault.stands in
+    let named : break.access.kind ≡ Write = break.faults.named.1 in
     let no : Exec ≡ Write = sym (ap (λ t. t.kind) is) ∙ named in
     cc
 

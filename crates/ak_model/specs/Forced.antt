@@ -52,17 +52,29 @@ pub record TouchesAreReached (image : List ℕ) (layout : Layout) (journal : Jou
 
 -- ---- Breaks
 
--- a break is forced: an access may fault though its cluster is in by the misses before
-pub record BreakIsForced (layout : Layout) (runs : Runs) (turn : ProgramTurn) (older : List ProgramTurn) : Type 0 where
+-- an access may fault, by this word for it, though its cluster is in
+pub record FaultsIn (layout : Layout) (queue : List ℕ) (MayFail : Touch → Type 0) : Type 0 where
   pub access : Touch
-  pub faults : MayFault layout runs turn access
-  pub inside : is_in (queue_by layout older) (cluster_at layout access.page.0) ≡ true
+  pub faults : MayFail access
+  pub inside : is_in queue (cluster_at layout access.page.0) ≡ true
+
+-- this holds where a turn with this event breaks
+abbrev pub IfBroken : Option Event → Type 0 → Type 0
+IfBroken (Some (Break i)) fact = fact
+IfBroken _ fact = Unit {0}
+
+-- each turn of the journal that breaks is forced to, by this word for it
+pub record EachBreak (layout : Layout) (journal : Journal) (IsForced : ProgramTurn → List ProgramTurn → Type 0) : Type 0 where
+  pub turns_break : EachTurn (λ turn. λ older. IfBroken turn.event (IsForced turn older)) (turns_of layout journal)
+
+-- a break is forced: an access may fault though its cluster is in by the misses before
+abbrev pub BreakIsForced : Layout → Runs → ProgramTurn → List ProgramTurn → Type 0
+BreakIsForced layout runs turn older = FaultsIn layout (queue_by layout older) (MayFault layout runs turn)
 
 -- a turn with this event: where it breaks, that is forced
 abbrev pub BrokenBy : Layout → Runs → ProgramTurn → List ProgramTurn → Option Event → Type 0
-BrokenBy layout runs turn older (Some (Break i)) = BreakIsForced layout runs turn older
-BrokenBy layout runs turn older _ = Unit {0}
+BrokenBy layout runs turn older event = IfBroken event (BreakIsForced layout runs turn older)
 
 -- each turn of the journal that breaks is forced to
-pub record BreaksAreForced (image : List ℕ) (layout : Layout) (journal : Journal) : Type 0 where
-  pub turns_break : EachTurn (λ turn. λ older. BrokenBy layout (runs_of layout image journal) turn older turn.event) (turns_of layout journal)
+abbrev pub BreaksAreForced : List ℕ → Layout → Journal → Type 0
+BreaksAreForced image layout journal = EachBreak layout journal (BreakIsForced layout (runs_of layout image journal))

@@ -1,25 +1,22 @@
 -- Two parts of the soundness of a journal, on how an enclave ends for ever: breaks are forced where translations are kept, and
 -- name the page of the stop; and the stop is that of the control state, with the move to blame. (The Autarky paper,
 -- self-paging runtime: a fault on a page that should be there ends the enclave.)
-use Rattle.std.specs.Prelude.{◌≡◌, ℕ, true, List, reverse, Option, Some, None}
+use Rattle.std.specs.Prelude.{◌≡◌, ℕ, List, reverse, Option, Some, None}
 use Rattle.ak_core.specs.Layout.{Layout}
 use Rattle.ak_core.specs.Journal.{Journal}
 use Rattle.ak_core.specs.Mem.{Touch}
 use Rattle.ak_core.specs.declared.page.Page.{Page}
 use Rattle.ak_core.specs.declared.page.Kind.{Kind}
 use Rattle.ak_core.specs.declared.event.Event.{Event}
-use Rattle.ak_core.specs.declared.event.Event.TheVariants.{Break}
 use Rattle.ak_core.specs.declared.event.Stop.{Stop}
 use Rattle.ak_core.specs.declared.event.StopCause.{StopCause}
 use Rattle.ak_core.specs.declared.event.StopCause.TheVariants.{Unmapped}
-use Rattle.ak_model.specs.Pages.{cluster_at}
 use Rattle.ak_model.specs.History.{History}
-use Rattle.ak_model.specs.Queue.{is_in}
 use Rattle.ak_model.specs.Control.{Cause, Broken, Named}
 use Rattle.ak_model.specs.Trace.{trace}
 use Rattle.ak_model.specs.Ends.{Runs, ended_at, runs_of}
 use Rattle.ak_model.specs.ProgramTurns.{ProgramTurn}
-use Rattle.ak_model.specs.Forced.{EachTurn, queue_by, turns_of}
+use Rattle.ak_model.specs.Forced.{queue_by, FaultsIn, IfBroken, EachBreak}
 use Rattle.ak_model.specs.Kept.{MayFaultUnkept}
 use Rattle.ak_model.specs.Blame.{blame}
 use Rattle.ak_model.specs.MovesBefore.{before_stop}
@@ -36,22 +33,23 @@ abbrev pub NamesAccess : Option Stop → Touch → Type 0
 NamesAccess None t = Unit {0}
 NamesAccess (Some stop) t = NamedBy stop.cause t
 
--- a break is forced: an access may fault and its translation is not kept, though its cluster is in by the misses before; a
--- stop for an unmapped page of the program names this access
-pub record BreakIsForcedUnkept (layout : Layout) (runs : Runs) (stop : Option Stop) (turn : ProgramTurn) (older : List ProgramTurn) : Type 0 where
-  pub access : Touch
-  pub faults : MayFaultUnkept layout runs turn older access
-  pub inside : is_in (queue_by layout older) (cluster_at layout access.page.0) ≡ true
-  pub named : NamesAccess stop access
+-- this access of the turn may break it: it may fault, its translation is not kept, and a stop for an unmapped page of the
+-- program names it
+pub record MayBreak (layout : Layout) (runs : Runs) (stop : Option Stop) (turn : ProgramTurn) (older : List ProgramTurn) (t : Touch) : Type 0 where
+  pub unkept : MayFaultUnkept layout runs turn older t
+  pub named : NamesAccess stop t
+
+-- a break is forced: an access may break the turn though its cluster is in by the misses before
+abbrev pub BreakIsForcedUnkept : Layout → Runs → Option Stop → ProgramTurn → List ProgramTurn → Type 0
+BreakIsForcedUnkept layout runs stop turn older = FaultsIn layout (queue_by layout older) (MayBreak layout runs stop turn older)
 
 -- a turn with this event: where it breaks, that is forced
 abbrev pub BrokenUnkeptBy : Layout → Runs → Option Stop → ProgramTurn → List ProgramTurn → Option Event → Type 0
-BrokenUnkeptBy layout runs stop turn older (Some (Break i)) = BreakIsForcedUnkept layout runs stop turn older
-BrokenUnkeptBy layout runs stop turn older _ = Unit {0}
+BrokenUnkeptBy layout runs stop turn older event = IfBroken event (BreakIsForcedUnkept layout runs stop turn older)
 
 -- each turn of the journal that breaks is forced to
-pub record BreaksAreForcedUnkept (image : List ℕ) (layout : Layout) (journal : Journal) : Type 0 where
-  pub turns_break : EachTurn (λ turn. λ older. BrokenUnkeptBy layout (runs_of layout image journal) journal.stop turn older turn.event) (turns_of layout journal)
+abbrev pub BreaksAreForcedUnkept : List ℕ → Layout → Journal → Type 0
+BreaksAreForcedUnkept image layout journal = EachBreak layout journal (BreakIsForcedUnkept layout (runs_of layout image journal) journal.stop)
 
 -- ---- The stop
 
