@@ -14,7 +14,7 @@ use Rattle.ak_model.specs.History.{Change, Unchanged, Maps, Blocks, Cycles, Writ
 use Rattle.ak_model.specs.Inside.{someone_inside}
 use Rattle.ak_model.specs.Walk.{touch_walkable}
 use Rattle.ak_model.specs.Control.{Context, Program, Entry, Probe, Finish, Guard, Leave, Reason, Interrupted, Cleared, Raised, Denied, Missed, Broke, Faulted, Saved, Control, cssa, is_asked}
-use Rattle.ak_model.specs.RuntimeStep.{asked_pages}
+use Rattle.ak_model.specs.RuntimeStep.{asked_pages, probed}
 use Rattle.ak_model.specs.Entering.{entered, interrupted_by}
 use Rattle.ak_model.specs.Trace.{Moment, trace}
 use Rattle.ak_model.specs.ProgramTurns.{program_turns}
@@ -26,7 +26,7 @@ use Rattle.ak_model.specs.Blamed.{newest_refusal, is_guard}
 use Rattle.ak_model.specs.Honours.{entered_since_ask, entered_after, is_finish_now, fetched_by}
 use Rattle.ak_model.specs.MovesBefore.{changed, moves_before_fault}
 use Rattle.ak_model.specs.BlamedMove.{IsAskedFor}
-use Rattle.ak_model.specs.Orderly.{ContextFits, FaultFits, StackFits, probed, refuses_by, is_refused, is_live, IsOrderly}
+use Rattle.ak_model.specs.Orderly.{ContextFits, FaultFits, StackFits, refuses_by, is_refused, is_live, IsOrderly}
 use Rattle.ak_model.proofs.Someone.{IsQuiet}
 use Rattle.ak_model.proofs.Orderly.{trace_is_orderly}
 use Rattle.ak_model.proofs.PresentTrace.{counts_right}

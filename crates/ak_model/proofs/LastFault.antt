@@ -9,13 +9,13 @@ use Rattle.ak_model.specs.Pages.{pages, pages_of}
 use Rattle.ak_model.specs.History.{History}
 use Rattle.ak_model.specs.Inside.{someone_inside}
 use Rattle.ak_model.specs.Control.{Phase, New, Running, Calling, Asked, Ended, Trapped, Dead, Context, Program, Entry, Probe, Finish, Guard, Leave, Reason, Interrupted, Cleared, Raised, Denied, Missed, Broke, Faulted, Saved, Control, is_asked}
-use Rattle.ak_model.specs.RuntimeStep.{asked_pages}
+use Rattle.ak_model.specs.RuntimeStep.{asked_pages, probed}
 use Rattle.ak_model.specs.Trace.{Moment}
 use Rattle.ak_model.specs.Blame.{returned_at}
 use Rattle.ak_model.specs.Blamed.{refusal_or, newest_refusal, is_guard}
 use Rattle.ak_model.specs.Honours.{is_mapped, cluster_is_mapped, entered_since_ask, is_finish_now, probes_done, fetched_by, keeps_fetched}
 use Rattle.ak_model.specs.BlamedMove.{IsAskedFor}
-use Rattle.ak_model.specs.Orderly.{ContextFits, FaultFits, SavedFits, StackFits, probed, is_live}
+use Rattle.ak_model.specs.Orderly.{ContextFits, FaultFits, SavedFits, StackFits, is_live}
 use Rattle.ak_model.proofs.Honoured.{none_past, all_at}
 use Rattle.ak_model.proofs.ClusterPages.{page_cluster}
 use Rattle.ak_model.proofs.LeftTurns.{has_probing, IsMild}

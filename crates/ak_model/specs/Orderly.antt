@@ -1,8 +1,8 @@
 -- The laws of the control state. They hold at each moment, whatever the kernel does, and whatever the program shows, as long
 -- as each miss is of a cluster that is out.
-use Rattle.std.specs.Prelude.{◌≡◌, ◌⊎◌, ℕ, ◌+◌, ◌<◌, ◌≤◌, Bool, true, false, List, [], ◌∷◌, ◌++◌, length, All, Option, Some, None, is_some, slice_index}
+use Rattle.std.specs.Prelude.{◌≡◌, ◌⊎◌, ℕ, ◌+◌, ◌<◌, ◌≤◌, Bool, true, false, List, [], ◌∷◌, ◌++◌, length, All, Option, Some, None, is_some}
 use Rattle.ak_core.specs.Layout.{Layout}
-use Rattle.ak_core.specs.Mem.{Touch, touch}
+use Rattle.ak_core.specs.Mem.{Touch}
 use Rattle.ak_core.specs.declared.build.Build.{Build}
 use Rattle.ak_core.specs.declared.build.Build.TheVariants.{Resident, Sealed as SealedBuild}
 use Rattle.ak_core.specs.declared.event.Event.{Event}
@@ -12,7 +12,7 @@ use Rattle.ak_model.specs.Control.{Phase, New, Running, Calling, Asked, Ended, T
 use Rattle.ak_model.specs.Turn.{Turn, Goes, Leaves}
 use Rattle.ak_core.specs.declared.event.Event.TheVariants.{Miss}
 use Rattle.ak_model.specs.ProgramStep.{due}
-use Rattle.ak_model.specs.RuntimeStep.{asked_pages}
+use Rattle.ak_model.specs.RuntimeStep.{asked_pages, probed}
 use Rattle.ak_model.specs.Inside.{someone_inside}
 use Rattle.ak_model.specs.Trace.{Moment}
 use Rattle.ak_model.specs.ProgramTurns.{ProgramTurn}
@@ -49,10 +49,6 @@ is_clearable _ = false
 abbrev pub IsOwnAccess : Layout → Touch → Type 0
 IsOwnAccess layout t =
     (pages layout < t.page.0) × (t.page.0 < all_pages layout) × (t.kind ≡ strong_kind layout t.page.0)
-
--- the page that a probe accesses, for all that the page allows
-abbrev pub probed : Layout → Phase → ℕ → Touch
-probed layout phase i = let p = slice_index (asked_pages layout phase) i in touch p (strong_kind layout p)
 
 -- the access at which a step faulted: one of the runtime's own, or a probe's page. The program has no such reason
 abbrev pub FaultFits : Layout → Phase → Context → Touch → Type 0

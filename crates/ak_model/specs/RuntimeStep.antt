@@ -44,14 +44,17 @@ abbrev pub asked_pages : Layout → Phase → List ℕ
 asked_pages layout (Asked c) = pages_of layout c
 asked_pages layout _ = []
 
+-- the access by which a page of that cluster is probed: for all that the page allows
+abbrev pub probed : Layout → Phase → ℕ → Touch
+probed layout phase i = let p = slice_index (asked_pages layout phase) i in touch p (strong_kind layout p)
+
 -- what a step touches, in order, each by a walk of its own
 abbrev pub touches : Layout → Control → Context → List Touch
 touches layout control context = touch (code_page layout) Exec ∷ touch (state_page layout) Write ∷ own_touches context
   where
     own_touches : Context → List Touch
     own_touches (Entry k v) = map (λ i. touch (ssa_page layout i) Write) (range_with_len 0 k)
-    own_touches (Probe i) =
-        let p = slice_index (asked_pages layout control.phase) i in touch p (strong_kind layout p) ∷ []
+    own_touches (Probe i) = probed layout control.phase i ∷ []
     own_touches Finish = touch (ssa_page layout 0) Write ∷ []
     own_touches _ = []
 
