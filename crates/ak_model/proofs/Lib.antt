@@ -1,6 +1,7 @@
 pub mod Samples
 pub mod Rows
 pub mod FlatRows
+pub mod ValidRows
 pub mod FirstRows
 pub mod Lines
 pub mod Tapes
