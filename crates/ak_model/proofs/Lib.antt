@@ -31,6 +31,8 @@ pub mod Queues
 pub mod Losses
 pub mod Strong
 pub mod Cycling
+pub mod Etracks
+mod TrackingRows
 pub mod StaysInside
 pub mod KernelRows
 pub mod MoreRows
