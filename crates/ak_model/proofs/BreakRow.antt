@@ -25,6 +25,7 @@ use Rattle.ak_model.specs.Sound.{Sound}
 use Rattle.ak_model.proofs.Samples.{image_a, page, none, pxad, setpte, eldu, eenter, eresume, run, interrupt, ex, pf}
 use Rattle.ak_model.proofs.Rows.{Row, moves_of}
 use Rattle.ak_model.proofs.FlatRows.{filled}
+use Rattle.ak_model.proofs.ValidRows.{valid_a}
 use Rattle.ak_model.proofs.SoundRows.{journal_of}
 
 -- a jump to itself
@@ -60,6 +61,8 @@ each_completes (suc (suc i)) h = absurd (omega arith)
 broken_sound : Sound jump image_a broken
 unfolding broken jump filled
 broken_sound = record {
+  valid = valid_a;
+  whole = refl;
   outputs = record { shown = refl; flat = ([], refl) };
   events = record { tape = refl; completed = each_completes; traps = (tt, (tt, tt)) };
   touches = record { turns_reach = (tt, (refl, (refl, (tt, tt)))) };

@@ -194,7 +194,7 @@ each_unit : (tape : List Event) → EachEvent (λ e. Unit {0}) tape
 each_unit [] = tt
 each_unit (event ∷ tape) = (tt, each_unit tape)
 
-module _ (image : List ℕ) (layout : Layout) (journal : Journal) (valid : IsValid layout) (sound : Sound image layout journal) where
+module _ (image : List ℕ) (layout : Layout) (journal : Journal) (sound : Sound image layout journal) where
   abbrev runs : Runs
   runs = runs_of layout image journal
 
@@ -204,7 +204,7 @@ module _ (image : List ℕ) (layout : Layout) (journal : Journal) (valid : IsVal
       let turns = turns_of layout journal in
       subst (MissesTouch layout runs (queue_at_build layout.build layout))
       (ap (taken turns) (sym sound.answers.taken) ∙ trace-taken layout journal.events moves)
-      (misses_touch layout valid runs turns [] (events-each layout (λ e. Unit {0}) journal.events moves (each_unit journal.events)) sound.misses.turns_miss tt)
+      (misses_touch layout sound.valid runs turns [] (events-each layout (λ e. Unit {0}) journal.events moves (each_unit journal.events)) sound.misses.turns_miss tt)
 
   -- the misses of an instruction are a row
   pub sound_row : (i : ℕ) → HasRow layout runs i (misses_at journal.events i)
@@ -214,13 +214,13 @@ module _ (image : List ℕ) (layout : Layout) (journal : Journal) (valid : IsVal
   pub sound_distinct : (i : ℕ) → IsDistinct (misses_at journal.events i)
   sound_distinct i =
       let row = sound_row i in
-      (touches_fit layout valid (touches_of layout (runs i)) (few_of layout (runs i)) row.0 (misses_at journal.events i) row.1).distinct
+      (touches_fit layout sound.valid (touches_of layout (runs i)) (few_of layout (runs i)) row.0 (misses_at journal.events i) row.1).distinct
 
   -- no more than its accesses
   pub sound_few : (i : ℕ) → length (misses_at journal.events i) ≤ length (touches_of layout (runs i))
   sound_few i =
       let row = sound_row i in
-      touches_few layout valid (touches_of layout (runs i)) (few_of layout (runs i)) row.0 (misses_at journal.events i) row.1
+      touches_few layout sound.valid (touches_of layout (runs i)) (few_of layout (runs i)) row.0 (misses_at journal.events i) row.1
 
   -- four at most
   pub sound_four : (i : ℕ) → length (misses_at journal.events i) ≤ 4

@@ -257,21 +257,21 @@ no_facts : (tape : List Event) → EachEvent (λ event. Unit {0}) tape
 no_facts [] = tt
 no_facts (event ∷ tape) = (tt, no_facts tape)
 
--- the misses of a sound journal of a valid layout, under a kernel that evicts
-pub misses-ideal : (image : List ℕ) (layout : Layout) (journal : Journal) → IsValid layout → Sound image layout journal → Evicts layout journal.events (reverse journal.moves) → MissesAreIdeal image layout journal
-misses-ideal image layout journal valid sound evicts =
+-- the misses of a sound journal, under a kernel that evicts
+pub misses-ideal : (image : List ℕ) (layout : Layout) (journal : Journal) → Sound image layout journal → Evicts layout journal.events (reverse journal.moves) → MissesAreIdeal image layout journal
+misses-ideal image layout journal sound evicts =
     let returned : List ℕ = (ended_at layout journal).control.returned in
     let turns : List ProgramTurn = turns_of layout journal in
     let count : ℕ = (ended_at layout journal).control.count in
-    let first = turns-first layout (runs_of layout image journal) journal.events (reverse journal.moves) valid (sound-misses image layout journal valid sound) evicts sound.touches.turns_reach sound.misses.turns_miss in
+    let first = turns-first layout (runs_of layout image journal) journal.events (reverse journal.moves) sound.valid (sound-misses image layout journal sound) evicts sound.touches.turns_reach sound.misses.turns_miss in
     let at = events-each layout (λ event. Unit {0}) journal.events (reverse journal.moves) (no_facts journal.events) in
-    let facts : EachTurn (Facts layout valid image returned) turns =
-    each-from_both (TurnFirst layout (runs_of layout image journal)) (λ turn. λ older. HoldsAt layout (λ event. Unit {0}) turn.count turn.event) (Facts layout valid image returned)
+    let facts : EachTurn (Facts layout sound.valid image returned) turns =
+    each-from_both (TurnFirst layout (runs_of layout image journal)) (λ turn. λ older. HoldsAt layout (λ event. Unit {0}) turn.count turn.event) (Facts layout sound.valid image returned)
     (λ turn older f h. (f, h)) turns first at in
     let counted : completed turns ≡ count = sym (trace-completed layout journal.events (reverse journal.moves)) in
-    let so_far : SoFar layout valid image returned count (queue_by layout turns) (misses_at journal.events) (traps_at journal.events) =
-    subst (λ n. SoFar layout valid image returned n (queue_by layout turns) (misses_at journal.events) (traps_at journal.events)) counted
-    (subst (λ tape. SoFar layout valid image returned (completed turns) (queue_by layout turns) (misses_at tape) (traps_at tape)) (all-taken image layout journal valid sound) (all_so_far layout valid image returned turns facts)) in
+    let so_far : SoFar layout sound.valid image returned count (queue_by layout turns) (misses_at journal.events) (traps_at journal.events) =
+    subst (λ n. SoFar layout sound.valid image returned n (queue_by layout turns) (misses_at journal.events) (traps_at journal.events)) counted
+    (subst (λ tape. SoFar layout sound.valid image returned (completed turns) (queue_by layout turns) (misses_at tape) (traps_at tape)) (all-taken image layout journal sound) (all_so_far layout sound.valid image returned turns facts)) in
     let touches : List Touch = touches_of layout (runs_of layout image journal count) in
     record {
       completed = so_far.before;
@@ -279,11 +279,11 @@ misses-ideal image layout journal valid sound evicts =
         | inl l ↦ so_far.before i l
         | inr now ↦
             subst (λ j. misses_at journal.events j ≡ ideal layout image returned j) (sym now.0)
-            (all_here layout valid image returned count (queue_by layout turns) (misses_at journal.events) (traps_at journal.events) so_far now.1)
+            (all_here layout sound.valid image returned count (queue_by layout turns) (misses_at journal.events) (traps_at journal.events) so_far now.1)
       ];
       last = (
         misses_of layout touches (length touches - length (misses_at journal.events count)) (fold (after_miss layout) (ideal_queue layout image returned count) (misses_at journal.events count)),
-        sym (first-begin layout valid touches (few_of layout (runs_of layout image journal count)) (ideal_queue layout image returned count) (misses_at journal.events count) so_far.here),
+        sym (first-begin layout sound.valid touches (few_of layout (runs_of layout image journal count)) (ideal_queue layout image returned count) (misses_at journal.events count) so_far.here),
       );
       later = so_far.later;
     }

@@ -2,7 +2,6 @@
 -- and where the kernel does not evict, the misses need not be those that the accesses force.
 use Rattle.std.proofs.Common.{◌≡◌, ℕ, zero, suc, ◌<◌, [], ◌∷◌, ◌++◌, arith, refl, length, ap}
 use Rattle.std.specs.Prelude.{true, false, reverse, Some, None, option_and_then}
-use Rattle.ak_core.specs.Layout.{IsValid}
 use Rattle.ak_core.specs.Journal.{Journal}
 use Rattle.ak_core.specs.declared.event.Event.TheVariants.{Call}
 use Rattle.ak_core.specs.declared.moves.Exit.{Exit}
@@ -16,47 +15,11 @@ use Rattle.ak_model.specs.Stops.{has_break}
 use Rattle.ak_model.specs.IdealMisses.{traps_at, ideal_of, MissesAreIdeal}
 use Rattle.ak_model.proofs.Samples.{image_a, pxad, setpte, eldu, eenter, run, ex}
 use Rattle.ak_model.proofs.FlatRows.{image_f, bytes_a, code_a, bytes_f, filled}
+use Rattle.ak_model.proofs.ValidRows.{valid_a, whole_a}
 use Rattle.ak_model.proofs.SoundRows.{journal_of, served, served_sound}
 use Rattle.ak_model.proofs.SoundCases.{over, over_sound, store, denied, denied_sound}
 use Rattle.ak_model.proofs.UnbrokenTape.{journal-unbroken}
 use Rattle.ak_model.proofs.IdealMisses.{misses-ideal}
-
--- ---- The layouts are valid
-
-valid_a : IsValid image_a
-valid_a = record {
-  clustered = refl;
-  numbered = refl;
-  some_page = omega arith;
-  few_pages = omega arith;
-  aligned = refl;
-  low = omega arith;
-  entered = omega arith;
-  large_budget = omega arith;
-  small_budget = omega arith;
-  some_frames = omega arith;
-  few_frames = omega arith;
-  some_lp = omega arith;
-  few_lps = omega arith;
-}
-
-valid_f : IsValid image_f
-unfolding image_f
-valid_f = record {
-  clustered = refl;
-  numbered = refl;
-  some_page = omega arith;
-  few_pages = omega arith;
-  aligned = refl;
-  low = omega arith;
-  entered = omega arith;
-  large_budget = omega arith;
-  small_budget = omega arith;
-  some_frames = omega arith;
-  few_frames = omega arith;
-  some_lp = omega arith;
-  few_lps = omega arith;
-}
 
 -- ---- One miss, served
 
@@ -69,10 +32,10 @@ unfolding served
 served_evicts = refl
 
 served_unbroken : has_break served.events ≡ false
-served_unbroken = journal-unbroken bytes_a image_a served valid_a served_sound served_honours
+served_unbroken = journal-unbroken bytes_a image_a served served_sound served_honours
 
 served_ideal : MissesAreIdeal bytes_a image_a served
-served_ideal = misses-ideal bytes_a image_a served valid_a served_sound served_evicts
+served_ideal = misses-ideal bytes_a image_a served served_sound served_evicts
 
 -- the first instruction misses its cluster, and the second none
 served_misses : ideal_of bytes_a image_a served 0 ++ ideal_of bytes_a image_a served 1 ≡ 0 ∷ []
@@ -90,7 +53,7 @@ unfolding image_f over
 over_evicts = refl
 
 over_ideal : MissesAreIdeal bytes_f image_f over
-over_ideal = misses-ideal bytes_f image_f over valid_f over_sound over_evicts
+over_ideal = misses-ideal bytes_f image_f over over_sound over_evicts
 
 -- one instruction misses two clusters, in the order of its accesses
 over_misses : ideal_of bytes_f image_f over 1 ≡ 1 ∷ 2 ∷ []
@@ -108,7 +71,7 @@ unfolding denied
 denied_evicts = refl
 
 denied_ideal : MissesAreIdeal store image_a denied
-denied_ideal = misses-ideal store image_a denied valid_a denied_sound denied_evicts
+denied_ideal = misses-ideal store image_a denied denied_sound denied_evicts
 
 -- the instruction that traps has missed the cluster of its fetch
 denied_trap : traps_at denied.events 0 ≡ true
@@ -141,6 +104,8 @@ early_completes (suc (suc (suc (suc (suc (suc (suc (suc i)))))))) h = absurd (om
 early_sound : Sound bytes_a image_a early
 unfolding early bytes_a code_a filled
 early_sound = record {
+  valid = valid_a;
+  whole = whole_a;
   outputs = record { shown = refl; flat = ([], refl) };
   events = record { tape = refl; completed = early_completes; traps = (tt, (tt, tt)) };
   touches = record { turns_reach = (refl, (refl, (refl, (refl, (refl, (refl, (refl, (refl, tt)))))))) };

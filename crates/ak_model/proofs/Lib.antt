@@ -1,6 +1,7 @@
 pub mod Samples
 pub mod Rows
 pub mod FlatRows
+pub mod ValidRows
 pub mod FirstRows
 pub mod Lines
 pub mod Tapes
@@ -30,6 +31,8 @@ pub mod Queues
 pub mod Losses
 pub mod Strong
 pub mod Cycling
+pub mod Etracks
+mod TrackingRows
 pub mod StaysInside
 pub mod KernelRows
 pub mod MoreRows

@@ -19,6 +19,7 @@ use Rattle.ak_model.specs.Sound.{Sound}
 use Rattle.ak_model.proofs.Samples.{layout_of, pxad, pwad, setpte, eldu, eenter, eresume, run, ex, pf}
 use Rattle.ak_model.proofs.Rows.{Row}
 use Rattle.ak_model.proofs.FlatRows.{image_b, bytes_b, filled}
+use Rattle.ak_model.proofs.ValidRows.{valid_b, whole_b}
 use Rattle.ak_model.proofs.SoundRows.{journal_of}
 
 -- ---- A store over two pages whose bytes lie over two others
@@ -44,6 +45,8 @@ four_complete (suc (suc (suc i))) h = absurd (omega arith)
 four_sound : Sound bytes_b image_b four
 unfolding image_b bytes_b four
 four_sound = record {
+  valid = valid_b;
+  whole = whole_b;
   outputs = record { shown = refl; flat = ([], refl) };
   events = record { tape = refl; completed = four_complete; traps = (tt, (tt, (tt, (tt, (tt, tt))))) };
   touches = record { turns_reach = (refl, (refl, (refl, (tt, (tt, (tt, (tt, tt))))))) };

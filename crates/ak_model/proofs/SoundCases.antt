@@ -18,6 +18,7 @@ use Rattle.ak_model.specs.Events.{completed_by, step_at, call_at}
 use Rattle.ak_model.specs.Sound.{Sound}
 use Rattle.ak_model.proofs.Samples.{image_a, pxad, pwad, setpte, eldu, eenter, eresume, run, ex, pf}
 use Rattle.ak_model.proofs.FlatRows.{image_f, bytes_f, filled}
+use Rattle.ak_model.proofs.ValidRows.{valid_a, valid_f, whole_f}
 use Rattle.ak_model.proofs.Rows.{Row}
 use Rattle.ak_model.proofs.SoundRows.{journal_of}
 
@@ -58,6 +59,8 @@ over_completes (suc (suc (suc (suc (suc (suc (suc (suc (suc (suc i)))))))))) h =
 pub over_sound : Sound bytes_f image_f over
 unfolding image_f bytes_f over
 over_sound = record {
+  valid = valid_f;
+  whole = whole_f;
   outputs = record { shown = refl; flat = ([], refl) };
   events = record { tape = refl; completed = over_completes; traps = (tt, (tt, (tt, (tt, (tt, tt))))) };
   touches = record {
@@ -175,6 +178,8 @@ denied = journal_of ((eenter 0 0, Ok) ∷ (run 0 1000, pf) ∷ (eenter 0 0, Ok) 
 pub denied_sound : Sound store image_a denied
 unfolding denied store filled
 denied_sound = record {
+  valid = valid_a;
+  whole = refl;
   outputs = record { shown = refl; flat = ([], refl) };
   events = record { tape = refl; completed = λ i. λ h. absurd (omega arith); traps = (tt, (refl, tt)) };
   touches = record { turns_reach = (refl, (tt, tt)) };

@@ -1,6 +1,6 @@
 -- The misses of a sound journal fit: each is of a cluster that is out by the misses before it.
 use Rattle.std.proofs.Common.{ℕ, List, [], reverse, ap, sym, ◌∙◌, subst}
-use Rattle.ak_core.specs.Layout.{Layout, IsValid}
+use Rattle.ak_core.specs.Layout.{Layout}
 use Rattle.ak_core.specs.Journal.{Journal}
 use Rattle.ak_model.specs.Build.{queue_at_build}
 use Rattle.ak_model.specs.Premises.{MissesFit}
@@ -9,9 +9,9 @@ use Rattle.ak_model.specs.Forced.{turns_of}
 use Rattle.ak_model.specs.Sound.{Sound}
 use Rattle.ak_model.proofs.EventsTaken.{taken, trace-taken, misses-fit}
 
-pub sound-misses : (image : List ℕ) (layout : Layout) (journal : Journal) → IsValid layout → Sound image layout journal → MissesFit layout (queue_at_build layout.build layout) journal.events
-sound-misses image layout journal valid h =
+pub sound-misses : (image : List ℕ) (layout : Layout) (journal : Journal) → Sound image layout journal → MissesFit layout (queue_at_build layout.build layout) journal.events
+sound-misses image layout journal h =
     let turns = turns_of layout journal in
     subst (MissesFit layout (queue_at_build layout.build layout))
     (ap (taken turns) (sym h.answers.taken) ∙ trace-taken layout journal.events (reverse journal.moves))
-    (misses-fit layout valid (runs_of layout image journal) turns [] h.misses.turns_miss tt)
+    (misses-fit layout h.valid (runs_of layout image journal) turns [] h.misses.turns_miss tt)

@@ -1,5 +1,5 @@
 -- The journal of one served miss is sound; and journals that are not.
-use Rattle.std.proofs.Common.{◌≡◌, ℕ, zero, suc, ◌<◌, List, [], ◌∷◌, arith, refl, ap}
+use Rattle.std.proofs.Common.{◌≡◌, ℕ, zero, suc, ◌<◌, ◌≤◌, List, [], ◌∷◌, arith, refl, ap}
 use Rattle.std.specs.Prelude.{false, true, slice_get, Option, Some, None, option_and_then, is_some, length}
 use Rattle.ak_core.specs.Journal.{Journal}
 use Rattle.ak_core.specs.Mem.{Touch, touch}
@@ -17,6 +17,7 @@ use Rattle.ak_model.specs.Sound.{Sound}
 use Rattle.ak_model.proofs.Samples.{image_a, pxad, setpte, eldu, eenter, eresume, run, ex, pf}
 use Rattle.ak_model.proofs.Rows.{Row, moves_of, answers_of}
 use Rattle.ak_model.proofs.FlatRows.{bytes_a, code_a, filled}
+use Rattle.ak_model.proofs.ValidRows.{valid_a, whole_a}
 
 -- the journal of a row, with these outputs, events and stop
 abbrev pub journal_of : Row → List ℕ → List Event → Option Stop → Journal
@@ -46,6 +47,8 @@ each_completes (suc (suc (suc (suc (suc (suc (suc (suc i)))))))) h = absurd (ome
 pub served_sound : Sound bytes_a image_a served
 unfolding served bytes_a code_a filled
 served_sound = record {
+  valid = valid_a;
+  whole = whole_a;
   outputs = record { shown = refl; flat = ([], refl) };
   events = record { tape = refl; completed = each_completes; traps = (tt, (tt, (tt, tt))) };
   touches = record { turns_reach = (refl, (refl, (refl, (refl, (refl, (refl, (refl, (refl, (tt, tt))))))))) };
@@ -140,6 +143,8 @@ stopped_not h =
 nothing : Sound bytes_a image_a (journal_of [] [] [] None)
 unfolding bytes_a code_a filled
 nothing = record {
+  valid = valid_a;
+  whole = whole_a;
   outputs = record { shown = refl; flat = ([], refl) };
   events = record { tape = refl; completed = λ i. λ h. absurd (omega arith); traps = tt };
   touches = record { turns_reach = tt };
@@ -148,3 +153,11 @@ nothing = record {
   answers = record { answered = refl; taken = refl };
   stop = record { stopped = refl };
 }
+
+-- the image lacks its page
+short_not : Sound [] image_a (journal_of [] [] [] None) → ⊥
+short_not h = let no : zero ≡ suc 4095 = h.whole in cc
+
+-- a layout without a processor
+unprocessed_not : Sound bytes_a (record image_a { lps = 0 }) (journal_of [] [] [] None) → ⊥
+unprocessed_not h = let no : 1 ≤ 0 = h.valid.some_lp in absurd (omega arith)

@@ -15,6 +15,7 @@ use Rattle.ak_model.specs.Sound.{Sound}
 use Rattle.ak_model.proofs.Samples.{image_a, page, none, pwad, pxad, setpte, eblock, eldu, eenter, eresume, run, interrupt, ex, pf}
 use Rattle.ak_model.proofs.Rows.{Row}
 use Rattle.ak_model.proofs.FlatRows.{code_a, bytes_a, filled}
+use Rattle.ak_model.proofs.ValidRows.{valid_a, whole_a}
 use Rattle.ak_model.proofs.FoundRows.{stops, stopping, asked, state_lost, area_blocked, area_stuck, lost_back}
 
 -- ---- A page of the runtime
@@ -23,6 +24,8 @@ use Rattle.ak_model.proofs.FoundRows.{stops, stopping, asked, state_lost, area_b
 state_lost_sound : Sound bytes_a image_a state_lost
 unfolding state_lost bytes_a code_a filled
 state_lost_sound = record {
+  valid = valid_a;
+  whole = whole_a;
   outputs = record { shown = refl; flat = ([], refl) };
   events = record { tape = refl; completed = λ i. λ h. absurd (omega arith); traps = tt };
   touches = record { turns_reach = tt };
@@ -36,6 +39,8 @@ state_lost_sound = record {
 area_blocked_sound : Sound bytes_a image_a area_blocked
 unfolding area_blocked bytes_a code_a filled
 area_blocked_sound = record {
+  valid = valid_a;
+  whole = whole_a;
   outputs = record { shown = refl; flat = ([], refl) };
   events = record { tape = refl; completed = λ i. λ h. absurd (omega arith); traps = (tt, tt) };
   touches = record { turns_reach = (tt, tt) };
@@ -61,6 +66,8 @@ area_blocked_sound = record {
 lost_back_sound : Sound bytes_a image_a lost_back
 unfolding lost_back bytes_a code_a filled
 lost_back_sound = record {
+  valid = valid_a;
+  whole = whole_a;
   outputs = record { shown = refl; flat = ([], refl) };
   events = record { tape = refl; completed = λ i. λ h. absurd (omega arith); traps = (tt, tt) };
   touches = record { turns_reach = (tt, tt) };
@@ -87,6 +94,8 @@ resumed = stops (asked ++ (eresume 0, Ok) ∷ (interrupt 0, Ok) ∷ (eresume 0, 
 resumed_sound : Sound bytes_a image_a resumed
 unfolding resumed bytes_a code_a filled
 resumed_sound = record {
+  valid = valid_a;
+  whole = whole_a;
   outputs = record { shown = refl; flat = ([], refl) };
   events = record { tape = refl; completed = λ i. λ h. absurd (omega arith); traps = (tt, tt) };
   touches = record { turns_reach = (tt, tt) };
@@ -111,6 +120,8 @@ resumed_sound = record {
 area_stuck_sound : Sound bytes_a image_a area_stuck
 unfolding area_stuck bytes_a code_a filled
 area_stuck_sound = record {
+  valid = valid_a;
+  whole = whole_a;
   outputs = record { shown = refl; flat = ([], refl) };
   events = record { tape = refl; completed = λ i. λ h. absurd (omega arith); traps = (tt, tt) };
   touches = record { turns_reach = (tt, tt) };

@@ -60,7 +60,7 @@ module _ (layout : Layout) (runs : Runs) where
 
 -- ---- Journals
 
-module _ (image : List ℕ) (layout : Layout) (journal : Journal) (valid : IsValid layout) (sound : Sound image layout journal) where
+module _ (image : List ℕ) (layout : Layout) (journal : Journal) (sound : Sound image layout journal) where
   -- all events of the journal are those of its turns
   pub all-taken : taken (turns_of layout journal) [] ≡ journal.events
   all-taken =
@@ -70,7 +70,7 @@ module _ (image : List ℕ) (layout : Layout) (journal : Journal) (valid : IsVal
   pub sound-misses : MissesFit layout (queue_at_build layout.build layout) journal.events
   sound-misses =
       subst (MissesFit layout (queue_at_build layout.build layout)) all-taken
-      (misses-fit layout valid (runs_of layout image journal) (turns_of layout journal) [] sound.misses.turns_miss tt)
+      (misses-fit layout sound.valid (runs_of layout image journal) (turns_of layout journal) [] sound.misses.turns_miss tt)
 
   sound_breaks : EachTurn (λ turn. λ older. BrokenBy layout (runs_of layout image journal) turn older turn.event) (turns_of layout journal)
   sound_breaks = each-broken-without layout (runs_of layout image journal) journal.stop (turns_of layout journal) sound.breaks.turns_break
@@ -80,10 +80,10 @@ module _ (image : List ℕ) (layout : Layout) (journal : Journal) (valid : IsVal
     journal-unbroken =
         subst (λ events. has_break events ≡ false) all-taken
         (taken_unbroken (turns_of layout journal) []
-        (turns-unbroken layout (runs_of layout image journal) valid journal.events sound-misses (reverse journal.moves) sound_breaks kept) refl)
+        (turns-unbroken layout (runs_of layout image journal) sound.valid journal.events sound-misses (reverse journal.moves) sound_breaks kept) refl)
 
     no_cause : (ended_at layout journal).control.cause ≡ None
-    no_cause = no_stop layout (runs_of layout image journal) journal.events (reverse journal.moves) valid sound-misses sound_breaks kept
+    no_cause = no_stop layout (runs_of layout image journal) journal.events (reverse journal.moves) sound.valid sound-misses sound_breaks kept
 
     stop_by : (cause : Option Cause) → cause ≡ None → IsStop layout (trace layout journal.events (before_stop layout journal.events (reverse journal.moves))).past cause journal.stop → journal.stop ≡ None
     stop_by None e h = h
@@ -99,6 +99,6 @@ module _ (image : List ℕ) (layout : Layout) (journal : Journal) (valid : IsVal
         by_shown : (b : Bool) → shows_stop (ended_at layout journal).past ≡ b → b ≡ false
         by_shown false e = refl
         by_shown true e =
-            let some = stop-has_cause layout valid journal.events sound-misses (reverse journal.moves) e in
+            let some = stop-has_cause layout sound.valid journal.events sound-misses (reverse journal.moves) e in
             let none : is_some (ended_at layout journal).control.cause ≡ false = ap is_some no_cause in
             cc

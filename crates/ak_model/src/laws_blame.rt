@@ -20,11 +20,9 @@ ghost use Rattle.ak_model.specs.BlamedMove.{BlamedIn};
 /// the journal's soundness this needs that its misses are of clusters that are out, its breaks forced, and its stop blamed so.
 pub fn blamed_move()
     ensures place { (image : List ℕ) (layout : Layout.Layout) (journal : Journal.Journal) (stop : Stop)
-        → IsValid layout → Sound image layout journal → journal.stop ≡ Some stop
-        → (1 ≤ stop.blame) × (stop.blame < length journal.moves) }
+        → Sound image layout journal → journal.stop ≡ Some stop → (1 ≤ stop.blame) × (stop.blame < length journal.moves) }
     ensures broke { (image : List ℕ) (layout : Layout.Layout) (journal : Journal.Journal) (stop : Stop)
-        → IsValid layout → Sound image layout journal → journal.stop ≡ Some stop
-        → BlamedIn layout journal stop }
+        → Sound image layout journal → journal.stop ≡ Some stop → BlamedIn layout journal stop }
     ensures needs { (image : List ℕ) (layout : Layout.Layout) (journal : Journal.Journal) (stop : Stop)
         → IsValid layout → MissesFit layout (queue_at_build layout.build layout) journal.events
         → BreaksAreForcedUnkept image layout journal → IsStopped layout journal → journal.stop ≡ Some stop

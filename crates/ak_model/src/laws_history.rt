@@ -1,5 +1,6 @@
 // Laws over histories: what moves change, and where pages are. Each is proved of every layout, of either build.
-ghost use Rattle.std.specs.Prelude.{◌≡◌, ◌≤◌, ◌<◌, ◌↔◌, ℕ, List, length, drop, true, false, Some};
+ghost use Rattle.std.specs.Prelude.{◌≡◌, ◌≤◌, ◌<◌, ◌↔◌, ℕ, List, length, drop, true, false, Some, ◌==◌};
+ghost use Rattle.std.specs.List.{list_any};
 ghost use Rattle.ak_core.specs.Layout;
 ghost use Rattle.ak_core.specs.Mem.{Touch};
 ghost use Rattle.ak_core.specs.declared.event.Event.{Event};
@@ -12,8 +13,8 @@ ghost use Rattle.ak_model.specs.Holdings.{PageFrame, InFrame, Sealed};
 ghost use Rattle.ak_model.specs.History.{History, Unchanged, change};
 ghost use Rattle.ak_model.specs.Frames.{held};
 ghost use Rattle.ak_model.specs.Handles.{page_of, discarded, live, slot, place};
-ghost use Rattle.ak_model.specs.Tracking.{cycles};
-ghost use Rattle.ak_model.specs.Waiting.{AllWait};
+ghost use Rattle.ak_model.specs.Tracking.{cycles, tracked, incomplete};
+ghost use Rattle.ak_model.specs.Waiting.{AllWait, IsEtrackAt, IsTracked, IsIncomplete};
 ghost use Rattle.ak_model.specs.Walk.{walkable, touch_walkable};
 ghost use Rattle.ak_model.specs.Control.{Control};
 ghost use Rattle.ak_model.specs.Entering.{control_after};
@@ -50,6 +51,16 @@ pub fn one_copy()
 /// Each tracking cycle waits for just those processors that were inside before it and have not left since.
 pub fn cycles_wait()
     ensures { (layout : Layout.Layout) (past : History) → AllWait layout past (cycles layout past) }
+{}
+
+/// A frame is tracked exactly where an ETRACK that was done stands after its block and each processor that was inside before that
+/// ETRACK has left since. The last cycle is incomplete exactly where the last ETRACK that was done waits for a processor. Each
+/// ETRACK that was done has a cycle at its place, and no other place has one.
+pub fn tracked_since()
+    ensures tracked { (layout : Layout.Layout) (past : History) (f : ℕ) → (tracked layout past f ≡ true) ↔ IsTracked layout past f }
+    ensures incomplete { (layout : Layout.Layout) (past : History) → (incomplete layout past ≡ true) ↔ IsIncomplete layout past }
+    ensures cycle { (layout : Layout.Layout) (past : History) (place : ℕ)
+        → (list_any (λ cycle. cycle.at == place) (cycles layout past) ≡ true) ↔ IsEtrackAt past place }
 {}
 
 /// A page that is mapped for all that it allows is walkable for each access that it permits.

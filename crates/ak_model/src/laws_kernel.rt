@@ -1,4 +1,4 @@
-// Laws of sound journals under a well-behaved kernel. Each is proved of every valid layout, of either build.
+// Laws of sound journals under a well-behaved kernel. Each is proved of every layout, of either build.
 ghost use Rattle.std.specs.Prelude.{◌≡◌, ℕ, List, reverse, None, false};
 ghost use Rattle.ak_core.specs.Layout;
 ghost use Rattle.ak_core.specs.Journal;
@@ -13,19 +13,19 @@ ghost use Rattle.ak_model.specs.Stops.{has_break, shows_stop};
 /// with the exit of a stopped enclave.
 pub fn no_break_on_tape()
     ensures unbroken { (image : List ℕ) (layout : Layout.Layout) (journal : Journal.Journal)
-        → Layout.IsValid layout → Sound image layout journal → Honours layout journal.events (reverse journal.moves)
+        → Sound image layout journal → Honours layout journal.events (reverse journal.moves)
         → has_break journal.events ≡ false }
     ensures unstopped { (image : List ℕ) (layout : Layout.Layout) (journal : Journal.Journal)
-        → Layout.IsValid layout → Sound image layout journal → Honours layout journal.events (reverse journal.moves)
+        → Sound image layout journal → Honours layout journal.events (reverse journal.moves)
         → journal.stop ≡ None }
     ensures unseen { (image : List ℕ) (layout : Layout.Layout) (journal : Journal.Journal)
-        → Layout.IsValid layout → Sound image layout journal → Honours layout journal.events (reverse journal.moves)
+        → Sound image layout journal → Honours layout journal.events (reverse journal.moves)
         → shows_stop (ended_at layout journal).past ≡ false }
 {}
 
 /// Under a kernel that evicts the misses of a sound journal are just those that the program's own accesses force.
 pub fn misses_are_ideal()
     ensures { (image : List ℕ) (layout : Layout.Layout) (journal : Journal.Journal)
-        → Layout.IsValid layout → Sound image layout journal → Evicts layout journal.events (reverse journal.moves)
+        → Sound image layout journal → Evicts layout journal.events (reverse journal.moves)
         → MissesAreIdeal image layout journal }
 {}

@@ -33,28 +33,26 @@ pub fn misses_and_breaks_stay_forced()
         (turns_of layout journal) }
 {}
 
-/// The misses of a sound journal of a valid layout fit: each is of a cluster that is out by the misses before it.
+/// The misses of a sound journal fit: each is of a cluster that is out by the misses before it.
 pub fn sound_misses_fit()
     ensures { (image : List ℕ) (layout : Layout.Layout) (journal : Journal.Journal)
-        → Layout.IsValid layout → Sound image layout journal → MissesFit layout (queue_at_build layout.build layout) journal.events }
+        → Sound image layout journal → MissesFit layout (queue_at_build layout.build layout) journal.events }
 {}
 
-/// At each turn of the program in a sound journal of a valid layout, the clusters that are in by the misses before it are
-/// different ones of the layout, and in a sealed build they fit the budget together.
+/// At each turn of the program in a sound journal, the clusters that are in by the misses before it are different ones of the
+/// layout, and in a sealed build they fit the budget together.
 pub fn sound_queue_fits()
     ensures { (image : List ℕ) (layout : Layout.Layout) (journal : Journal.Journal)
-        → Layout.IsValid layout → Sound image layout journal
-        → EachTurn (λ turn. λ older. QueueFits layout (queue_by layout older)) (turns_of layout journal) }
+        → Sound image layout journal → EachTurn (λ turn. λ older. QueueFits layout (queue_by layout older)) (turns_of layout journal) }
 {}
 
-/// An instruction of a sound journal of a valid layout misses four clusters at most: none twice, and no more than it makes
-/// accesses before the first forbidden one.
+/// An instruction of a sound journal misses four clusters at most: none twice, and no more than it makes accesses before the
+/// first forbidden one.
 pub fn few_misses()
     ensures four { (image : List ℕ) (layout : Layout.Layout) (journal : Journal.Journal) (i : ℕ)
-        → Layout.IsValid layout → Sound image layout journal → length (misses_at journal.events i) ≤ 4 }
+        → Sound image layout journal → length (misses_at journal.events i) ≤ 4 }
     ensures once { (image : List ℕ) (layout : Layout.Layout) (journal : Journal.Journal) (i : ℕ)
-        → Layout.IsValid layout → Sound image layout journal → IsDistinct (misses_at journal.events i) }
+        → Sound image layout journal → IsDistinct (misses_at journal.events i) }
     ensures accesses { (image : List ℕ) (layout : Layout.Layout) (journal : Journal.Journal) (i : ℕ)
-        → Layout.IsValid layout → Sound image layout journal
-        → length (misses_at journal.events i) ≤ length (touches_of layout (runs_of layout image journal i)) }
+        → Sound image layout journal → length (misses_at journal.events i) ≤ length (touches_of layout (runs_of layout image journal i)) }
 {}

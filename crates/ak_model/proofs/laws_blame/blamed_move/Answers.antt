@@ -4,7 +4,7 @@ use Rattle.ak_model.proofs.laws_blame.blamed_move.Goals as goal
 
 pub returns : goal.returns
 returns c = record {
-  place = λ image layout journal stop valid sound h. blamed-place layout image journal stop valid (sound-misses image layout journal valid sound) sound.breaks sound.stop h;
-  broke = λ image layout journal stop valid sound h. blamed-in layout image journal stop valid (sound-misses image layout journal valid sound) sound.breaks sound.stop h;
+  place = λ image layout journal stop sound h. blamed-place layout image journal stop sound.valid (sound-misses image layout journal sound) sound.breaks sound.stop h;
+  broke = λ image layout journal stop sound h. blamed-in layout image journal stop sound.valid (sound-misses image layout journal sound) sound.breaks sound.stop h;
   needs = λ image layout journal stop valid misses breaks stopped h. blamed-in layout image journal stop valid misses breaks stopped h;
 }
