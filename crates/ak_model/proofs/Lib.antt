@@ -37,6 +37,7 @@ pub mod Clusters
 pub mod OrderlySteps
 pub mod OrderlyTurns
 pub mod Someone
+pub mod Moved
 pub mod OrderlyMoves
 pub mod OrderlyTrace
 pub mod ValidClusters

@@ -106,7 +106,7 @@ module _ (layout : Layout) where
               ]
           | inr earlier ↦
               let le : place ≤ length before.past = earlier_place before.past earlier in
-              let more = step_stays layout before m lp place (is_present layout tape moves) le at in
+              let more = step_stays layout before m lp place (λ q. placed layout q tape moves) (is_present layout tape moves) le at in
               let rest : list_all (keeps_out layout) (moments layout tape moves) ≡ true = (and_parts (list_all (keeps_out layout) (turn_moments layout before m)) _ (sym (list_all-append (keeps_out layout) (turn_moments layout before m) (moments layout tape moves)) ∙ outs.1)).1 in
               reached_in moves rest more.0 (then_kept before.control here.control last more.1 kept) earlier
         ]

@@ -5,8 +5,8 @@ use Rattle.std.specs.List.{range_with_len, list_any}
 use Rattle.std.proofs.lemmas.Bool.{or_parts, or_from, eq-eqb, eqb-true, eqb-false, ltb-true, not-false}
 use Rattle.ak_core.specs.Layout.{Layout}
 use Rattle.ak_core.specs.declared.moves.Answer.{Answer}
-use Rattle.ak_core.specs.declared.moves.Answer.TheVariants.{Ok, OkHandle, NoLp, Inside, TcsFault, Busy}
-use Rattle.ak_model.specs.History.{History, Change, Unchanged, Maps, Blocks, Cycles, WritesOut, Loads, Removes, MakesVa, Discards, Enters, Resumes, Exits, Interrupts, if_ok, if_handle}
+use Rattle.ak_core.specs.declared.moves.Answer.TheVariants.{Ok, NoLp, Inside, TcsFault, Busy}
+use Rattle.ak_model.specs.History.{History, Change, Enters, Resumes}
 use Rattle.ak_model.specs.Inside.{since, since_after, inside, processors, someone_inside, another_inside}
 use Rattle.ak_model.specs.Answers.{finds_tcs, if_outside}
 
@@ -77,35 +77,3 @@ module _ (layout : Layout) where
       let y = other (not (finds_tcs layout past)) TcsFault _ Ok (λ e. cc) x.1 in
       let z = other (another_inside layout past lp) Busy _ Ok (λ e. cc) y.1 in
       (ltb-true lp layout.lps (not-false (nat_lt lp layout.lps) w.0), none_of past lp (processors layout) x.0 z.0, z.1)
-
-  -- ---- Changes by which nobody enters or leaves
-
-  abbrev pub IsQuiet : Change → Type 0
-  IsQuiet (Enters lp v) = ⊥
-  IsQuiet (Resumes lp) = ⊥
-  IsQuiet (Exits lp exit) = ⊥
-  IsQuiet (Interrupts lp) = ⊥
-  IsQuiet _ = Unit {0}
-
-  pub quiet_someone : (past : History) (c : Change) → IsQuiet c → someone_after past c ≡ someone_inside layout past
-  quiet_someone past Unchanged q = refl
-  quiet_someone past (Maps p f flags) q = refl
-  quiet_someone past (Blocks f) q = refl
-  quiet_someone past Cycles q = refl
-  quiet_someone past (WritesOut f va i k) q = refl
-  quiet_someone past (Loads f k p va i blocked) q = refl
-  quiet_someone past (Removes f) q = refl
-  quiet_someone past (MakesVa f) q = refl
-  quiet_someone past (Discards k) q = refl
-  quiet_someone past (Enters lp v) q = absurd q
-  quiet_someone past (Resumes lp) q = absurd q
-  quiet_someone past (Exits lp exit) q = absurd q
-  quiet_someone past (Interrupts lp) q = absurd q
-
-  pub quiet_ok : (a : Answer) (c : Change) → IsQuiet c → IsQuiet (if_ok a c)
-  quiet_ok Ok c q = q
-  quiet_ok _ c q = tt
-
-  pub quiet_handle : (a : Answer) (c : ℕ → Change) → ((k : ℕ) → IsQuiet (c k)) → IsQuiet (if_handle a c)
-  quiet_handle (OkHandle k) c q = q k.0
-  quiet_handle _ c q = tt
