@@ -20,7 +20,7 @@ use Rattle.ak_model.specs.Blame.{is_fault, before_fault, resumed_at}
 use Rattle.ak_model.specs.Blamed.{refusal_or, newest_refusal, FaultStands, BlameStands, BlameStandsAt}
 use Rattle.ak_model.specs.Orderly.{refuses_by, IsOrderly, OrderlyAfter}
 use Rattle.ak_model.proofs.Placed.{placed}
-use Rattle.ak_model.proofs.Moved.{Reading, reading, moved}
+use Rattle.ak_model.proofs.Moved.{Reading, reading, each_move}
 use Rattle.ak_model.proofs.OrderlySteps.{ClustersFit}
 use Rattle.ak_model.proofs.OrderlyMoves.{none_now, not_refused}
 use Rattle.ak_model.proofs.ValidClusters.{clusters_fit}
@@ -66,7 +66,7 @@ module _ (layout : Layout) (fit : ClustersFit layout) where
       let past : History = moment.past in
       let control : Control = moment.control in
       let so_far : List ℕ = queue_by layout turns in
-      moved layout moment (λ e. After past (e.turns ++ turns) e.change e.next)
+      each_move layout moment (λ e. After past (e.turns ++ turns) e.change e.next)
       (record {
         quiet = old;
         enters = λ lp v there out few. record { fault = old.fault; guard = λ h. absurd (cc) };

@@ -16,7 +16,7 @@ use Rattle.ak_model.specs.ProgramStep.{due, leave_program, event_turn}
 use Rattle.ak_model.specs.Turns.{turn_of, turn, Ran, go_on, run}
 use Rattle.ak_model.specs.Entering.{resumed_by, interrupted_by}
 use Rattle.ak_model.specs.Counted.{is_asynchronous, more_if, Request, Service, with_served, service_by, service, IsRequested, Counts, CountsRight}
-use Rattle.ak_model.proofs.Moved.{Reading, reading, moved}
+use Rattle.ak_model.proofs.Moved.{Reading, reading, each_move}
 use Rattle.ak_model.specs.Trace.{Moment, step}
 use Rattle.ak_model.specs.Inside.{inside}
 use Rattle.ak_core.specs.declared.moves.Move.{Move}
@@ -198,7 +198,7 @@ module _ (layout : Layout) where
   -- one more move
   pub step_counts : (moment : Moment) (m : Move) → ((p : ℕ) → inside moment.past p ≡ true → nat_lt p layout.lps ≡ true) → ((p : ℕ) → inside moment.past p ≡ true → is_some moment.control.now ≡ true) → CountsRight layout moment → CountsRight layout (step layout moment m)
   step_counts moment m low context old =
-      moved layout moment (λ e. After _ _ _ moment.control old e.change e.next)
+      each_move layout moment (λ e. After _ _ _ moment.control old e.change e.next)
       (record {
         quiet = old;
         enters = λ lp v there out few. record { saved_is = old.saved_is; pending_is = refl; queue_is = old.queue_is; requested = old.requested };

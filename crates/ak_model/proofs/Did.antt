@@ -14,7 +14,7 @@ use Rattle.ak_model.specs.ProgramTurns.{ProgramTurn, turns_of_run}
 use Rattle.ak_model.specs.Forced.{queue_by}
 use Rattle.ak_model.specs.BlamedMove.{changed}
 use Rattle.ak_model.specs.Orderly.{IsOrderly, TurnIsOrderly, after_turn, OrderlyAfter}
-use Rattle.ak_model.proofs.Moved.{Reading, reading, moved}
+use Rattle.ak_model.proofs.Moved.{Reading, reading, each_move}
 use Rattle.ak_model.proofs.OrderlySteps.{ClustersFit}
 use Rattle.ak_model.proofs.OrderlyTurns.{turn_fits}
 use Rattle.ak_model.proofs.OrderlyMoves.{none_now}
@@ -70,7 +70,7 @@ did layout fit older moment P holds low orderly m =
     let past : History = moment.past in
     let control : Control = moment.control in
     let so_far : List ℕ = queue_by layout older in
-    moved layout moment (λ e. P e.change e.next)
+    each_move layout moment (λ e. P e.change e.next)
     (record {
       quiet = holds.quiet;
       enters = λ lp v there out few. holds.entered lp v (none_now layout so_far (someone_inside layout past) control orderly out);

@@ -36,6 +36,7 @@ pub mod MoreRows
 pub mod Clusters
 pub mod OrderlySteps
 pub mod OrderlyTurns
+pub mod Changes
 pub mod Someone
 pub mod Moved
 pub mod OrderlyMoves

@@ -1,16 +1,16 @@
 -- What a move does at a moment: nothing that the control state reads, or somebody enters, resumes, is interrupted or runs.
 use Rattle.std.proofs.Common.{◌≡◌, ℕ, ◌+◌, ◌<◌, List, [], ◌∷◌, length, map, reverse, refl, sym, subst}
-use Rattle.std.specs.Prelude.{Bool, true, false, not, if◌then◌else◌, Option, is_some, nat_lt, ◌==◌}
+use Rattle.std.specs.Prelude.{Bool, true, false, not, if◌then◌else◌, Option, Some, None, is_some, nat_lt, ◌==◌}
 use Rattle.std.specs.List.{list_any}
 use Rattle.std.proofs.lemmas.Bool.{ltb-true, eqb-false}
 use Rattle.ak_core.specs.Layout.{Layout}
 use Rattle.ak_core.specs.declared.moves.Move.{Move}
 use Rattle.ak_core.specs.declared.moves.Move.TheVariants.{ReadPte, Ewb, Eenter, Eresume, Run, Interrupt}
 use Rattle.ak_core.specs.declared.moves.Answer.{Answer}
-use Rattle.ak_core.specs.declared.moves.Answer.TheVariants.{Ok, OkHandle, NoLp, Outside, Gp, Pending}
-use Rattle.ak_model.specs.History.{History, Change, Unchanged, Enters, Resumes, Exits, Interrupts, if_ok, if_handle, if_left, if_exit}
+use Rattle.ak_core.specs.declared.moves.Answer.TheVariants.{Ok, NoLp, Outside, Gp, Pending}
+use Rattle.ak_model.specs.History.{History, Change, Unchanged, Enters, Resumes, Exits, Interrupts, if_ok, if_left, if_exit}
 use Rattle.ak_model.specs.Inside.{since_after, since, inside, processors, someone_inside}
-use Rattle.ak_model.specs.Control.{Saved, Control, cssa}
+use Rattle.ak_model.specs.Control.{Context, Saved, Control, cssa}
 use Rattle.ak_model.specs.Turns.{run}
 use Rattle.ak_model.specs.Answers.{answer, enter_answer, resume_answer}
 use Rattle.ak_model.specs.Entering.{entered, resumed_by, interrupted_by, on_ok, on_exit}
@@ -22,6 +22,7 @@ use Rattle.ak_model.specs.Blame.{faults, enters_at_one, resumes}
 use Rattle.ak_model.specs.Honours.{entered_after}
 use Rattle.ak_model.specs.BlamedMove.{changed}
 use Rattle.ak_model.specs.Stops.{says_stopped}
+use Rattle.ak_model.proofs.Changes.{ok_holds, handle_holds}
 use Rattle.ak_model.proofs.Someone.{other, is_someone, outside_ok}
 
 -- all that is read of a change to know who is inside, how the control state stands and which move is blamed; a proof that reads
@@ -58,14 +59,6 @@ someone_then layout past change = list_any (λ lp. is_some (change.since lp (len
 abbrev IsQuiet : Change → Type 0
 IsQuiet c = reading c ≡ reading Unchanged
 
-quiet_ok : (a : Answer) (c : Change) → IsQuiet c → IsQuiet (if_ok a c)
-quiet_ok Ok c q = q
-quiet_ok _ c q = refl
-
-quiet_handle : (a : Answer) (c : ℕ → Change) → ((k : ℕ) → IsQuiet (c k)) → IsQuiet (if_handle a c)
-quiet_handle (OkHandle k) c q = q k.0
-quiet_handle _ c q = refl
-
 -- what a move does: what is read of its change, the next control state, the program's turns, and the moments before its turns
 pub record Effect : Type 0 where
   pub change : Reading
@@ -95,6 +88,16 @@ ran layout moment lp n =
       turns = reverse (turns_of_run layout lp moment.past n moment.control);
       moments = map (λ control. record moment { control = control }) (reverse (before_turns layout moment.past n moment.control));
     }
+
+-- what an interrupt leaves as it is
+pub record IsSame (control next : Control) : Type 0 where
+  pub count : next.count ≡ control.count
+  pub rest : next.rest ≡ control.rest
+  pub cause : next.cause ≡ control.cause
+
+pub interrupted_same : (control : Control) (now : Option Context) → IsSame control (interrupted_by control now)
+interrupted_same control None = record { count = refl; rest = refl; cause = refl }
+interrupted_same control (Some context) = record { count = refl; rest = refl; cause = refl }
 
 module _ (layout : Layout) (moment : Moment) (P : Effect → Type 0) where
   -- it holds where nothing is read of the move, and where somebody enters, resumes, is interrupted or runs
@@ -149,11 +152,11 @@ module _ (layout : Layout) (moment : Moment) (P : Effect → Type 0) where
     runs_by lp n true true e d low = holds.runs lp n d (is_someone layout moment.past lp (ltb-true lp layout.lps e) d)
 
     -- then it holds of each move: a change of the tables alone, or a refused move, keeps what stands
-    pub moved : ((lp : ℕ) → inside moment.past lp ≡ true → nat_lt lp layout.lps ≡ true) → (m : Move) → P (effect layout moment m)
-    moved low (ReadPte p) = holds.quiet
-    moved low (Ewb f va i) = quietly _ (quiet_handle (answer layout moment.past moment.control (Ewb f va i)) _ (λ k. refl))
-    moved low (Eenter lp v) = answered (enter_answer layout moment.past moment.control lp.0) (Enters lp.0 v) (entered moment.control v) (enters lp.0 v)
-    moved low (Eresume lp) = answered (resume_answer layout moment.past moment.control lp.0) (Resumes lp.0) (resumed_by moment.control moment.control.stack) (resumes_at lp.0)
-    moved low (Run lp n) = runs_by lp.0 n (nat_lt lp.0 layout.lps) (inside moment.past lp.0) refl refl (low lp.0)
-    moved low (Interrupt lp) = interrupts_by lp.0 (nat_lt lp.0 layout.lps) (inside moment.past lp.0) refl
-    moved low m = quietly _ (quiet_ok (answer layout moment.past moment.control m) _ refl)
+    pub each_move : ((lp : ℕ) → inside moment.past lp ≡ true → nat_lt lp layout.lps ≡ true) → (m : Move) → P (effect layout moment m)
+    each_move low (ReadPte p) = holds.quiet
+    each_move low (Ewb f va i) = quietly _ (handle_holds IsQuiet refl (answer layout moment.past moment.control (Ewb f va i)) _ (λ k h. refl))
+    each_move low (Eenter lp v) = answered (enter_answer layout moment.past moment.control lp.0) (Enters lp.0 v) (entered moment.control v) (enters lp.0 v)
+    each_move low (Eresume lp) = answered (resume_answer layout moment.past moment.control lp.0) (Resumes lp.0) (resumed_by moment.control moment.control.stack) (resumes_at lp.0)
+    each_move low (Run lp n) = runs_by lp.0 n (nat_lt lp.0 layout.lps) (inside moment.past lp.0) refl refl (low lp.0)
+    each_move low (Interrupt lp) = interrupts_by lp.0 (nat_lt lp.0 layout.lps) (inside moment.past lp.0) refl
+    each_move low m = quietly _ (ok_holds IsQuiet refl (answer layout moment.past moment.control m) _ (λ h. refl))

@@ -25,7 +25,7 @@ use Rattle.ak_model.specs.Premises.{MissesFit}
 use Rattle.ak_model.specs.Honours.{keeps_mapped, keeps_fetched, entered_since_ask, entered_after, resumes_early, never_resumes_early, Honours}
 use Rattle.ak_model.specs.Orderly.{ContextFits, StackFits, IsOrderly, TurnIsOrderly, OrderlyAfter}
 use Rattle.ak_model.proofs.Placed.{placed}
-use Rattle.ak_model.proofs.Moved.{Reading, reading, Effect, effect, moved}
+use Rattle.ak_model.proofs.Moved.{Reading, reading, Effect, effect, each_move}
 use Rattle.ak_model.proofs.OrderlySteps.{ClustersFit}
 use Rattle.ak_model.proofs.OrderlyTurns.{turn_fits}
 use Rattle.ak_model.proofs.ValidClusters.{clusters_fit}
@@ -177,7 +177,7 @@ module _ (layout : Layout) (fit : ClustersFit layout) (runs : Runs) where
   step_calm older moment m low orderly old =
       let past : History = moment.past in
       let control : Control = moment.control in
-      moved layout moment (λ e. Asked older moment e → After past e.change e.next)
+      each_move layout moment (λ e. Asked older moment e → After past e.change e.next)
       (record {
         quiet = λ h. old;
         enters = λ lp v there out few h. record { cause = old.cause; stack = old.stack; free = tt; asked = λ a. inl refl };

@@ -24,7 +24,7 @@ use Rattle.ak_model.specs.Orderly.{IsOrderly, TurnIsOrderly, after_event, after_
 use Rattle.ak_model.proofs.Queues.{queue_after-more}
 use Rattle.ak_model.proofs.Placed.{placed}
 use Rattle.ak_model.proofs.Someone.{someone_after, is_someone}
-use Rattle.ak_model.proofs.Moved.{reading, moved}
+use Rattle.ak_model.proofs.Moved.{reading, each_move}
 use Rattle.ak_model.proofs.OrderlySteps.{ClustersFit}
 use Rattle.ak_model.proofs.OrderlyTurns.{turn_fits}
 use Rattle.ak_model.proofs.OrderlyMoves.{AfterChange, widen, enter_fits, resume_fits, interrupt_fits}
@@ -105,7 +105,7 @@ module _ (layout : Layout) where
         let past : History = moment.past in
         let control : Control = moment.control in
         let so_far : List ℕ = queue_by layout older in
-        moved layout moment (λ e. AfterChange layout (queue_by layout (e.turns ++ older)) past e.change e.next)
+        each_move layout moment (λ e. AfterChange layout (queue_by layout (e.turns ++ older)) past e.change e.next)
         (record {
           quiet = old;
           enters = λ lp v there out few. enter_fits layout so_far past control lp v there out few old;

@@ -9,7 +9,7 @@ use Rattle.ak_model.specs.Trace.{Moment, step, trace}
 use Rattle.ak_model.specs.Counted.{CountsRight}
 use Rattle.ak_model.specs.Presence.{IsPresent}
 use Rattle.ak_model.proofs.Placed.{placed}
-use Rattle.ak_model.proofs.Moved.{moved}
+use Rattle.ak_model.proofs.Moved.{each_move}
 use Rattle.ak_model.proofs.Present.{Present, After, enters, resumes, interrupts, runs}
 use Rattle.ak_model.proofs.Counting.{step_counts}
 
@@ -19,7 +19,7 @@ module _ (layout : Layout) where
 
   step_present : (moment : Moment) → ((p : ℕ) → inside moment.past p ≡ true → nat_lt p layout.lps ≡ true) → At moment → (m : Move) → At (step layout moment m)
   step_present moment low old m =
-      moved layout moment (λ e. After layout moment.past moment.control low old e.change e.next)
+      each_move layout moment (λ e. After layout moment.past moment.control low old e.change e.next)
       (record {
         quiet = old;
         enters = λ lp v there out few. enters layout moment.past moment.control low old lp v there out;

@@ -19,7 +19,7 @@ use Rattle.ak_model.specs.Turns.{turn_of, turn, Ran, go_on, run}
 use Rattle.ak_model.specs.Entering.{interrupted_by}
 use Rattle.ak_model.specs.Trace.{Moment, step}
 use Rattle.ak_model.specs.Presence.{IsPresent}
-use Rattle.ak_model.proofs.Moved.{Reading, reading, moved}
+use Rattle.ak_model.proofs.Moved.{Reading, reading, each_move}
 
 -- the same clusters are in, and one that is asked for stays so
 pub record Kept (before next : Control) : Type 0 where
@@ -162,7 +162,7 @@ module _ (layout : Layout) where
   step_stays moment m lp place known at low =
       let past : History = moment.past in
       let control : Control = moment.control in
-      moved layout moment (λ e. Stays lp place past low e.change control e.next)
+      each_move layout moment (λ e. Stays lp place past low e.change control e.next)
       (record {
         quiet = λ h. (h, same control);
         enters = λ q v there out few h. (new_place lp place past low (lp == q) h, record { queue = refl; asked = λ c e. e });

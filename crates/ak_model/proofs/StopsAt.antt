@@ -9,7 +9,7 @@ use Rattle.ak_core.specs.declared.moves.Move.{Move}
 use Rattle.ak_model.specs.Build.{queue_at_build}
 use Rattle.ak_model.specs.History.{History}
 use Rattle.ak_model.specs.Inside.{someone_inside}
-use Rattle.ak_model.specs.Control.{Context, Cause, Broken, Named, Control, is_asked}
+use Rattle.ak_model.specs.Control.{Cause, Broken, Named, Control, is_asked}
 use Rattle.ak_model.specs.Entering.{entered, resumed_by, interrupted_by}
 use Rattle.ak_model.specs.Trace.{trace}
 use Rattle.ak_model.specs.ProgramTurns.{program_turns}
@@ -22,21 +22,17 @@ use Rattle.ak_model.proofs.ValidClusters.{clusters_fit}
 use Rattle.ak_model.proofs.Orderly.{trace_is_orderly}
 use Rattle.ak_model.proofs.RunEnds.{Since}
 use Rattle.ak_model.proofs.LeftTurns.{StopBy}
-use Rattle.ak_model.proofs.Moved.{Reading, reading}
+use Rattle.ak_model.proofs.Moved.{Reading, reading, interrupted_same}
 use Rattle.ak_model.proofs.Did.{Holds, did}
 
 module _ (layout : Layout) (past : History) (control : Control) where
-  interrupted_cause : (now : Option Context) → (interrupted_by control now).cause ≡ control.cause
-  interrupted_cause None = refl
-  interrupted_cause (Some context) = refl
-
   -- the cause stays
   cause_later : (x : Cause) → control.cause ≡ Some x → Holds layout past control (λ change next. next.cause ≡ Some x)
   cause_later x e = record {
     quiet = e;
     entered = λ lp v n. e;
     resumed = λ lp saved rest n p s. e;
-    interrupted = λ lp. interrupted_cause control.now ∙ e;
+    interrupted = λ lp. (interrupted_same control control.now).cause ∙ e;
     went = λ next s. s.cause ∙ e;
     exited = λ lp exit next h. h.left.stays x (h.since.cause ∙ e);
   }
@@ -64,7 +60,7 @@ module _ (layout : Layout) (past : History) (control : Control) where
     quiet = not_yet control none;
     entered = λ lp v n. not_yet (entered control v) none;
     resumed = λ lp saved rest n p s. not_yet (resumed_by control (saved ∷ rest)) none;
-    interrupted = λ lp. not_yet (interrupted_by control control.now) (interrupted_cause control.now ∙ none);
+    interrupted = λ lp. not_yet (interrupted_by control control.now) ((interrupted_same control control.now).cause ∙ none);
     went = λ next s. not_yet next (s.cause ∙ none);
     exited = λ lp exit next h e. record {
       someone = h.someone;

@@ -18,7 +18,6 @@ use Rattle.ak_model.specs.ProgramStep.{due, event_turn}
 use Rattle.ak_model.specs.Turn.{Turn, Goes, Leaves}
 use Rattle.ak_model.specs.Turns.{turn_of, turn, go_on, run}
 use Rattle.ak_model.specs.Answers.{answer}
-use Rattle.ak_model.specs.Entering.{interrupted_by}
 use Rattle.ak_model.specs.Trace.{Moment, step, trace}
 use Rattle.ak_model.specs.Premises.{MissesFit}
 use Rattle.ak_model.specs.StepRows.{guards}
@@ -26,7 +25,7 @@ use Rattle.ak_model.specs.Stops.{is_stopped, says_stopped, shows_stop}
 use Rattle.ak_model.specs.Orderly.{ContextFits, NowFits, PhaseFits, IsOrderly, TurnIsOrderly, MomentIsOrderly, after_turn}
 use Rattle.ak_model.specs.BlamedMove.{changed}
 use Rattle.ak_model.proofs.Placed.{placed}
-use Rattle.ak_model.proofs.Moved.{Reading, reading, moved}
+use Rattle.ak_model.proofs.Moved.{Reading, reading, each_move, interrupted_same}
 use Rattle.ak_model.proofs.OrderlySteps.{ClustersFit}
 use Rattle.ak_model.proofs.OrderlyTurns.{turn_fits}
 use Rattle.ak_model.proofs.ValidClusters.{clusters_fit}
@@ -175,10 +174,6 @@ module _ (layout : Layout) where
   silent : (control : Control) (change : Reading) (next : Control) → next.cause ≡ control.cause → change.stopped ≡ false → MoveStops control change next
   silent control change next e s = record { stays = λ h. subst (λ o. is_some o ≡ true) (sym e) h; shown = λ h. absurd (cc) }
 
-  interrupted_cause : (control : Control) (now : Option Context) → (interrupted_by control now).cause ≡ control.cause
-  interrupted_cause control None = refl
-  interrupted_cause control (Some context) = refl
-
   left_says : (control : Control) (lp : ℕ) (exit : Exit) (next : Control) → StopsWith control exit next → MoveStops control (reading (if_left exit (Exits lp exit))) next
   left_says control lp Still next h = record { stays = h.stays; shown = λ e. absurd (cc) }
   left_says control lp exit next h = record { stays = h.stays; shown = h.shown }
@@ -186,12 +181,12 @@ module _ (layout : Layout) where
   move_stops : (fit : ClustersFit layout) (so_far : List ℕ) (moment : Moment) (m : Move) → ((lp : ℕ) → inside moment.past lp ≡ true → nat_lt lp layout.lps ≡ true) → MomentIsOrderly layout so_far moment → MoveStops moment.control (reading (changed layout moment m)) (step layout moment m).control
   move_stops fit so_far moment m low old =
       let control : Control = moment.control in
-      moved layout moment (λ e. MoveStops control e.change e.next)
+      each_move layout moment (λ e. MoveStops control e.change e.next)
       (record {
         quiet = silent control _ control refl refl;
         enters = λ lp v there out few. silent control _ _ refl refl;
         resumes = λ lp saved rest there out free e. silent control _ _ refl refl;
-        interrupts = λ lp d. silent control _ _ (interrupted_cause control control.now) refl;
+        interrupts = λ lp d. silent control _ _ (interrupted_same control control.now).cause refl;
         runs = λ lp n d someone.
             let ran = run layout moment.past n control in
             left_says control lp ran.exit ran.control (run_stops fit moment.past n so_far control (subst (λ b. IsOrderly layout so_far b control) someone old));

@@ -9,7 +9,7 @@ use Rattle.std.proofs.lemmas.List.Folds.{list_all-append, list_all-map}
 use Rattle.ak_core.specs.Layout.{Layout, IsValid}
 use Rattle.ak_core.specs.declared.event.Event.{Event}
 use Rattle.ak_core.specs.declared.moves.Move.{Move}
-use Rattle.ak_core.specs.declared.moves.Move.TheVariants.{SetPte, ReadPte, Eblock, Etrack, Ewb, Eldu, Eldb, Eremove, Epa, Discard, Eenter, Eresume, Run, Interrupt}
+use Rattle.ak_core.specs.declared.moves.Move.TheVariants.{Run}
 use Rattle.ak_model.specs.Build.{queue_at_build}
 use Rattle.ak_model.specs.History.{History}
 use Rattle.ak_model.specs.Inside.{inside}
@@ -140,19 +140,7 @@ module _ (layout : Layout) (tape : List Event) (test : Moment → Bool) where
 
     move_each : (moves : List Move) (m : Move) → AllMoments moves → list_all test (turn_moments layout (trace layout tape moves) m) ≡ true → EachTurn P (program_turns layout tape moves) → EachTurn P (turns_of_move layout (trace layout tape moves) m ++ program_turns layout tape moves)
     move_each moves (Run lp n) all tests h = within_each moves lp.0 n (inside (trace layout tape moves).past lp.0) refl all tests h
-    move_each moves (Eenter lp v) all tests h = h
-    move_each moves (Eresume lp) all tests h = h
-    move_each moves (Interrupt lp) all tests h = h
-    move_each moves (SetPte p f flags) all tests h = h
-    move_each moves (ReadPte p) all tests h = h
-    move_each moves (Eblock f) all tests h = h
-    move_each moves Etrack all tests h = h
-    move_each moves (Ewb f va i) all tests h = h
-    move_each moves (Eldu f k p va i) all tests h = h
-    move_each moves (Eldb f k p va i) all tests h = h
-    move_each moves (Eremove f) all tests h = h
-    move_each moves (Epa f) all tests h = h
-    move_each moves (Discard k) all tests h = h
+    move_each moves _ all tests h = h
 
     -- what follows where a turn stands holds of each turn
     pub turns-each : (moves : List Move) → AllMoments moves → EachTurn P (program_turns layout tape moves)
