@@ -1,6 +1,6 @@
 -- The count of a trace is the number of its program turns that completed an instruction.
 use Rattle.std.proofs.Common.{◌≡◌, ℕ, zero, suc, List, [], ◌∷◌, ◌++◌, append_assoc, reverse, arith, refl, ap, sym, ◌∙◌}
-use Rattle.std.specs.Prelude.{Bool, true, false, if◌then◌else◌, Option, Some, None, nat_lt, ◌==◌}
+use Rattle.std.specs.Prelude.{Bool, true, false, Option, Some, None, nat_lt, ◌==◌}
 use Rattle.std.proofs.lemmas.List.{reverse-append}
 use Rattle.ak_core.specs.Layout.{Layout}
 use Rattle.ak_core.specs.declared.event.Event.{Event}
@@ -15,6 +15,7 @@ use Rattle.ak_model.specs.Turns.{turn_of, turn, go_on, run}
 use Rattle.ak_model.specs.Trace.{Moment, step, trace}
 use Rattle.ak_model.specs.Kept.{completes_by}
 use Rattle.ak_model.specs.ProgramTurns.{ProgramTurn, turn_in, turns_after, turns_of_run, turns_of_move, program_turns}
+use Rattle.ak_model.proofs.Tests.{either_way}
 use Rattle.ak_model.proofs.TapeRuns.{after, runtime_count}
 use Rattle.ak_model.proofs.Placed.{placed}
 use Rattle.ak_model.proofs.Moved.{each_move, interrupted_same}
@@ -37,16 +38,12 @@ joined here more older =
 module _ (layout : Layout) where
   -- ---- One turn
 
-  if_count : (b : Bool) (t u : Turn) (count : ℕ) → (after t).count ≡ count → (after u).count ≡ count → (after (if b then t else u)).count ≡ count
-  if_count true t u count e f = e
-  if_count false t u count e f = f
-
   event_count : (control : Control) (event : Option Event) → (after (event_turn layout control event)).count ≡ one_more_if (completes_by event) control.count
   event_count control None = omega arith
   event_count control (Some (Call i b a)) = omega arith
   event_count control (Some (Miss i c)) = refl
   event_count control (Some (Break i)) = refl
-  event_count control (Some (Trap i v)) = if_count (v == 14) _ _ control.count refl refl
+  event_count control (Some (Trap i v)) = either_way (λ t. (after t).count ≡ control.count) (v == 14) _ _ refl refl
 
   by_now : (lp : ℕ) (past : History) (control : Control) (now : Option Context) (older : List ProgramTurn) → control.count ≡ completed older → (after (turn_of layout past control now)).count ≡ completed (reverse (turn_in lp past control now) ++ older)
   by_now lp past control None older h = h

@@ -1,39 +1,27 @@
 -- The kernel can count the saved contexts, the pending flag and the queue from the answers.
 use Rattle.std.proofs.Common.{◌≡◌, ℕ, zero, suc, List, [], ◌∷◌, ◌++◌, length, drop, take, arith, refl, ap, sym, ◌∙◌, subst}
-use Rattle.std.specs.Prelude.{Bool, true, false, ◌||◌, if◌then◌else◌, Option, Some, None, ◌==◌, is_some, nat_lt}
+use Rattle.std.specs.Prelude.{Bool, true, ◌||◌, Option, Some, None, ◌==◌, is_some, nat_lt}
 use Rattle.ak_core.specs.Layout.{Layout}
 use Rattle.ak_core.specs.Mem.{Touch}
 use Rattle.ak_core.specs.declared.moves.Exit.{Exit}
 use Rattle.ak_core.specs.declared.moves.Exit.TheVariants.{Vector, Still}
 use Rattle.ak_core.specs.declared.event.Event.{Event}
 use Rattle.ak_core.specs.declared.event.Event.TheVariants.{Call as CallEvent, Miss, Trap, Break}
+use Rattle.ak_core.specs.declared.moves.Move.{Move}
 use Rattle.ak_model.specs.History.{History, Resumes, Exits, Interrupts, if_left}
 use Rattle.ak_model.specs.Queue.{drops}
 use Rattle.ak_model.specs.Control.{Phase, New, Running, Calling, Asked, Ended, Trapped, Dead, Context, Program, Entry, Probe, Finish, Guard, Leave, Reason, Interrupted, Cleared, Raised, Denied, Missed, Broke, Faulted, Saved, Control, cssa}
 use Rattle.ak_model.specs.Turn.{Turn, Goes, Leaves}
-use Rattle.ak_model.specs.RuntimeStep.{touches, step_fault, guard_top, guarded_twice, program_at_bottom, shown_fault, ask, handle, enter, finish, resume_guard, leave_call, effect, unless_fault}
+use Rattle.ak_model.specs.RuntimeStep.{touches, step_fault, shown_fault, ask, handle, enter, finish, resume_guard, leave_call, effect, unless_fault}
 use Rattle.ak_model.specs.ProgramStep.{due, leave_program, event_turn}
 use Rattle.ak_model.specs.Turns.{turn_of, turn, Ran, go_on, run}
 use Rattle.ak_model.specs.Entering.{resumed_by, interrupted_by}
 use Rattle.ak_model.specs.Counted.{is_asynchronous, more_if, Request, Service, with_served, service_by, service, IsRequested, Counts, CountsRight}
-use Rattle.ak_model.proofs.Moved.{Reading, reading, each_move}
 use Rattle.ak_model.specs.Trace.{Moment, step}
 use Rattle.ak_model.specs.Inside.{inside}
-use Rattle.ak_core.specs.declared.moves.Move.{Move}
-
-top_length : (stack : List Saved) → length (guard_top stack) ≡ length stack
-top_length [] = refl
-top_length (saved ∷ older) = refl
-
-twice_length : (stack : List Saved) → length (guarded_twice stack) ≡ length stack
-twice_length [] = refl
-twice_length (saved ∷ []) = refl
-twice_length (saved ∷ next ∷ older) = refl
-
-bottom_length : (stack : List Saved) → length (program_at_bottom stack) ≡ length stack
-bottom_length [] = refl
-bottom_length (saved ∷ []) = refl
-bottom_length (saved ∷ next ∷ older) = ap suc (bottom_length (next ∷ older))
+use Rattle.ak_model.proofs.Stacks.{top_length, twice_length, bottom_length}
+use Rattle.ak_model.proofs.Tests.{either_way}
+use Rattle.ak_model.proofs.Moved.{Reading, reading, each_move}
 
 module _ (layout : Layout) where
   abbrev TurnCounts : ℕ → Bool → Service → Turn → Type 0
@@ -47,10 +35,6 @@ module _ (layout : Layout) where
 
     gone : Counts saved pending service (record control { now = None })
     gone = settled _ refl refl refl old.requested
-
-    either : (b : Bool) (t u : Turn) → TurnCounts saved pending service t → TurnCounts saved pending service u → TurnCounts saved pending service (if b then t else u)
-    either true t u h k = h
-    either false t u h k = k
 
     asked : (c : ℕ) → TurnCounts saved pending service (ask layout control c)
     asked c = record {
@@ -67,7 +51,7 @@ module _ (layout : Layout) where
     by_reason k inner Denied older = settled _ (top_length control.stack) refl refl tt
     by_reason k inner Broke older = settled _ (top_length control.stack) refl refl tt
     by_reason k inner (Missed c) older = asked c
-    by_reason k inner (Faulted t) older = either (k == 2) _ _ (settled _ (twice_length control.stack) refl refl tt) (settled _ (top_length control.stack) refl refl tt)
+    by_reason k inner (Faulted t) older = either_way (TurnCounts saved pending service) (k == 2) _ _ (settled _ (twice_length control.stack) refl refl tt) (settled _ (top_length control.stack) refl refl tt)
 
     handled : (k : ℕ) (stack : List Saved) → TurnCounts saved pending service (handle layout control k stack)
     handled k [] = gone
@@ -142,7 +126,7 @@ module _ (layout : Layout) where
     event_counts (Some (CallEvent i b a)) = settled _ refl refl refl old.requested
     event_counts (Some (Miss i c)) = left_program (shown_fault layout) (Missed c) refl refl
     event_counts (Some (Break i)) = left_program (shown_fault layout) Broke refl refl
-    event_counts (Some (Trap i v)) = either (v == 14) _ _ (left_program (shown_fault layout) Denied refl refl) (left_program (Vector v) (Raised v) refl refl)
+    event_counts (Some (Trap i v)) = either_way (TurnCounts saved pending service) (v == 14) _ _ (left_program (shown_fault layout) Denied refl refl) (left_program (Vector v) (Raised v) refl refl)
 
     turn_by : (past : History) (now : Option Context) → TurnCounts saved pending service (turn_of layout past control now)
     turn_by past None = old

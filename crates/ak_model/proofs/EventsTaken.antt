@@ -23,6 +23,7 @@ use Rattle.ak_model.specs.Premises.{MissesFit}
 use Rattle.ak_model.specs.Ends.{Runs}
 use Rattle.ak_model.specs.Forced.{EachTurn, missed_by, queue_by}
 use Rattle.ak_model.specs.Misses.{MissedBy}
+use Rattle.ak_model.proofs.Tests.{either_way}
 use Rattle.ak_model.proofs.TapeRuns.{after, runtime_rest}
 use Rattle.ak_model.proofs.Queues.{queue_after-more}
 use Rattle.ak_model.proofs.Placed.{placed}
@@ -67,17 +68,13 @@ abbrev left : Option Event → List Event → List Event
 left None rest = rest
 left (Some event) rest = without_first rest
 
-either : (b : Bool) (t u : Turn) (rest : List Event) → (after t).rest ≡ rest → (after u).rest ≡ rest → (after (if b then t else u)).rest ≡ rest
-either true t u rest h k = h
-either false t u rest h k = k
-
 module _ (layout : Layout) where
   event_left : (control : Control) (event : Option Event) → (after (event_turn layout control event)).rest ≡ left event control.rest
   event_left control None = refl
   event_left control (Some (Call i b a)) = refl
   event_left control (Some (Miss i c)) = refl
   event_left control (Some (Break i)) = refl
-  event_left control (Some (Trap i v)) = either (v == 14) _ _ (without_first control.rest) refl refl
+  event_left control (Some (Trap i v)) = either_way (λ t. (after t).rest ≡ without_first control.rest) (v == 14) _ _ refl refl
 
   due_by : (event : Event) (rest : List Event) (b : Bool) → with_event (then_some b event) (left (then_some b event) (event ∷ rest)) ≡ event ∷ rest
   due_by event rest true = refl

@@ -10,6 +10,7 @@ use Rattle.ak_core.specs.declared.moves.Exit.{Exit}
 use Rattle.ak_core.specs.declared.moves.Exit.TheVariants.{Still, Ask}
 use Rattle.ak_core.specs.declared.event.Event.{Event}
 use Rattle.ak_core.specs.declared.moves.Move.{Move}
+use Rattle.ak_core.specs.declared.event.Event.TheVariants.{Call, Miss, Trap, Break}
 use Rattle.ak_model.specs.Build.{queue_at_build}
 use Rattle.ak_model.specs.History.{History, Resumes, Exits, Interrupts, if_left}
 use Rattle.ak_model.specs.Inside.{inside, someone_inside}
@@ -24,6 +25,10 @@ use Rattle.ak_model.specs.Forced.{queue_by, EachTurn, BreakIsForced, BrokenBy}
 use Rattle.ak_model.specs.Premises.{MissesFit}
 use Rattle.ak_model.specs.Honours.{keeps_mapped, keeps_fetched, entered_since_ask, entered_after, resumes_early, never_resumes_early, Honours}
 use Rattle.ak_model.specs.Orderly.{ContextFits, StackFits, IsOrderly, TurnIsOrderly, OrderlyAfter}
+use Rattle.ak_model.specs.Ends.{Runs}
+use Rattle.ak_model.specs.Blamed.{is_break}
+use Rattle.ak_model.specs.ProgramStep.{due}
+use Rattle.ak_model.proofs.Tests.{all_of_reverse}
 use Rattle.ak_model.proofs.Placed.{placed}
 use Rattle.ak_model.proofs.Moved.{Reading, reading, Effect, effect, each_move}
 use Rattle.ak_model.proofs.OrderlySteps.{ClustersFit}
@@ -32,20 +37,8 @@ use Rattle.ak_model.proofs.ValidClusters.{clusters_fit}
 use Rattle.ak_model.proofs.Orderly.{trace_is_orderly}
 use Rattle.ak_model.proofs.Calm.{StackCalm, GuardFree, IsCalm, TurnCalm}
 use Rattle.ak_model.proofs.Honoured.{turn_calm}
-use Rattle.ak_core.specs.declared.event.Event.TheVariants.{Call, Miss, Trap, Break}
-use Rattle.ak_model.specs.Ends.{Runs}
-use Rattle.ak_model.specs.Blamed.{is_break}
-use Rattle.ak_model.specs.ProgramStep.{due}
 use Rattle.ak_model.proofs.OrderlyTrace.{turn_more}
 use Rattle.ak_model.proofs.Unbroken.{not-broken}
-
-all_of_reverse : {A : Type 0} (test : A → Bool) (xs : List A) → list_all test (reverse xs) ≡ true → list_all test xs ≡ true
-all_of_reverse test [] h = refl
-all_of_reverse test (x ∷ xs) h =
-    let split : list_all test (reverse xs ++ x ∷ []) ≡ true = subst (λ l. list_all test l ≡ true) (reverse-append (x ∷ []) xs) h in
-    let both = and_parts (list_all test (reverse xs)) (test x && true) (sym (list_all-append test (reverse xs) (x ∷ [])) ∙ split) in
-    let here = (and_parts (test x) true both.1).0 in
-    rw here (all_of_reverse test xs both.0)
 
 module _ (layout : Layout) (fit : ClustersFit layout) (runs : Runs) where
   -- each break is forced

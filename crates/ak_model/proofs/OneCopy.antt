@@ -23,6 +23,7 @@ use Rattle.ak_model.specs.Tracking.{tracked}
 use Rattle.ak_model.specs.Control.{Control}
 use Rattle.ak_model.specs.Answers.{answer, if_frame, if_page, is_slot, write_out_answer, mac_answer, load_answer, va_answer}
 use Rattle.ak_model.specs.Trace.{trace}
+use Rattle.ak_model.proofs.Someone.{other}
 use Rattle.ak_model.proofs.Changes.{ok_holds, handle_holds, exit_holds}
 use Rattle.ak_model.proofs.Copies.{Agrees, loads, writes_out, removes, frees, makes_va, discards}
 
@@ -81,10 +82,6 @@ module _ (layout : Layout) where
   Fair past (MakesVa f) = held layout past f ≡ FreeFrame
   Fair past (Discards k) = k < given layout past
   Fair past _ = Unit {0}
-
-  other : (b : Bool) (x y z : Answer) → (x ≡ z → ⊥) → (if b then x else y) ≡ z → (b ≡ false) × (y ≡ z)
-  other true x y z ne h = absurd (ne h)
-  other false x y z ne h = (refl, h)
 
   free_if : (frame : Held) → is_free frame ≡ true → frame ≡ FreeFrame
   free_if FreeFrame h = refl

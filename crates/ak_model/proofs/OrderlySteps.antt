@@ -11,13 +11,14 @@ use Rattle.ak_model.specs.Control.{Phase, New, Running, Calling, Asked, Ended, T
 use Rattle.ak_model.specs.RuntimeStep.{save, guard, guard_top, guarded_twice, program_at_bottom, asked_pages, fault, stuck_cause, nested_cause, own_fault, handle, trap, ask, enter, next_probe, finish, resume_guard, leave_call, effect}
 use Rattle.ak_model.specs.StepRows.{opens, guards}
 use Rattle.ak_model.specs.Orderly.{ContextFits, SavedFits, StackFits, is_refused, is_live, QueueFits, PhaseFits, ServedBy, IsOrderly, TurnIsOrderly}
+use Rattle.ak_model.proofs.Stacks.{top_length}
 use Rattle.ak_model.proofs.Clusters.{out-drop, dropped_fits, appended_fits}
 
 pub empty_if : {A : Type 0} (xs : List A) → length xs ≡ 0 → xs ≡ []
 empty_if [] h = refl
 empty_if (x ∷ xs) h = absurd (omega arith)
 
-first_is_some : (earlier : Option Cause) (cause : Cause) → is_some (first_cause earlier cause) ≡ true
+pub first_is_some : (earlier : Option Cause) (cause : Cause) → is_some (first_cause earlier cause) ≡ true
 first_is_some None cause = refl
 first_is_some (Some earlier) cause = refl
 
@@ -114,10 +115,6 @@ module _ (layout : Layout) (fit : ClustersFit layout) (so_far : List ℕ) (contr
   top_not_refused : (stack : List Saved) → is_refused (guard_top stack) ≡ true → ⊥
   top_not_refused [] h = absurd (cc)
   top_not_refused (saved ∷ older) h = absurd (cc)
-
-  top_length : (stack : List Saved) → length (guard_top stack) ≡ length stack
-  top_length [] = refl
-  top_length (saved ∷ older) = refl
 
   ask_fits : (c : ℕ) → length control.stack ≡ 1 → c < layout.clusters → is_in control.queue c ≡ false → ServedBy layout so_far (Asked c) (drop (drops layout control.queue c) control.queue) (guard_top control.stack) → TurnIsOrderly layout so_far (ask layout control c)
   ask_fits c one known out t =

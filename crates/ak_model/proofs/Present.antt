@@ -18,6 +18,7 @@ use Rattle.ak_model.specs.ProgramStep.{due, event_turn}
 use Rattle.ak_model.specs.Turns.{turn_of, turn, Ran, go_on, run}
 use Rattle.ak_model.specs.Entering.{entered, resumed_by, interrupted_by}
 use Rattle.ak_model.specs.Moments.{unless_left, before_turns}
+use Rattle.ak_model.proofs.Tests.{either_way}
 use Rattle.ak_model.proofs.Someone.{someone_after, entered_someone, resumed_someone, is_someone}
 use Rattle.ak_model.proofs.Moved.{Reading, reading, someone_then}
 
@@ -31,10 +32,6 @@ abbrev TurnPresent : Turn → Type 0
 TurnPresent (Goes control) = is_some control.now ≡ true
 TurnPresent (Leaves exit control) = (is_still exit ≡ false) × (is_some control.now ≡ false)
 
-either : (b : Bool) (t u : Turn) → TurnPresent t → TurnPresent u → TurnPresent (if b then t else u)
-either true t u h k = h
-either false t u h k = k
-
 module _ (layout : Layout) where
   module _ (control : Control) (some : is_some control.now ≡ true) where
     by_reason : (k : ℕ) (inner : Context) (reason : Reason) (older : List Saved) → TurnPresent (handle layout control k (record { context = inner; reason = reason } ∷ older))
@@ -44,7 +41,7 @@ module _ (layout : Layout) where
     by_reason k inner Denied older = (refl, refl)
     by_reason k inner Broke older = (refl, refl)
     by_reason k inner (Missed c) older = (refl, refl)
-    by_reason k inner (Faulted t) older = either (k == 2) _ _ (refl, refl) (refl, refl)
+    by_reason k inner (Faulted t) older = either_way TurnPresent (k == 2) _ _ (refl, refl) (refl, refl)
 
     handled : (k : ℕ) (stack : List Saved) → TurnPresent (handle layout control k stack)
     handled k [] = (refl, refl)
@@ -106,7 +103,7 @@ module _ (layout : Layout) where
     event_present (Some (Call i b a)) = refl
     event_present (Some (Miss i c)) = (refl, refl)
     event_present (Some (Break i)) = (refl, refl)
-    event_present (Some (Trap i v)) = either (v == 14) _ _ (refl, refl) (refl, refl)
+    event_present (Some (Trap i v)) = either_way TurnPresent (v == 14) _ _ (refl, refl) (refl, refl)
 
     turn_by : (past : History) (now : Option Context) → TurnPresent (turn_of layout past control now)
     turn_by past None = some

@@ -19,6 +19,7 @@ use Rattle.ak_model.specs.Turns.{turn_of, turn, Ran, go_on, run}
 use Rattle.ak_model.specs.Entering.{interrupted_by}
 use Rattle.ak_model.specs.Trace.{Moment, step}
 use Rattle.ak_model.specs.Presence.{IsPresent}
+use Rattle.ak_model.proofs.Tests.{either_way}
 use Rattle.ak_model.proofs.Moved.{Reading, reading, each_move}
 
 -- the same clusters are in, and one that is asked for stays so
@@ -38,17 +39,13 @@ TurnKeeps control (Goes next) = Kept control next
 TurnKeeps control (Leaves exit next) = exit ≡ Still → ⊥
 
 module _ (layout : Layout) where
-  if_keeps : (b : Bool) (control : Control) (t u : Turn) → TurnKeeps control t → TurnKeeps control u → TurnKeeps control (if b then t else u)
-  if_keeps true control t u h k = h
-  if_keeps false control t u h k = k
-
   begins : (control : Control) (phase : Phase) (returned : List ℕ) → control.phase ≡ phase → is_asked phase ≡ false → Kept control (record control { phase = Running; now = Some Program; returned = returned })
   begins control phase returned e a = record { queue = refl; asked = λ c h. absurd (let x = ap is_asked h in let y = ap is_asked e in cc) }
 
   by_reason : (control : Control) (k : ℕ) (inner : Context) (reason : Reason) (older : List Saved) → TurnKeeps control (handle layout control k (record { context = inner; reason = reason } ∷ older))
   by_reason control k inner Interrupted older = λ x. cc
   by_reason control k inner Cleared older = λ x. cc
-  by_reason control k inner (Faulted t) older = if_keeps (k == 2) control _ _ (λ x. cc) (λ x. cc)
+  by_reason control k inner (Faulted t) older = either_way (TurnKeeps control) (k == 2) _ _ (λ x. cc) (λ x. cc)
   by_reason control k inner (Raised v) older = λ x. cc
   by_reason control k inner Denied older = λ x. cc
   by_reason control k inner Broke older = λ x. cc
@@ -108,7 +105,7 @@ module _ (layout : Layout) where
   events control (Some (Call i b a)) = record { queue = refl; asked = λ d h. h }
   events control (Some (Miss i c)) = λ x. cc
   events control (Some (Break i)) = λ x. cc
-  events control (Some (Trap i v)) = if_keeps (v == 14) control _ _ (λ x. cc) (λ x. cc)
+  events control (Some (Trap i v)) = either_way (TurnKeeps control) (v == 14) _ _ (λ x. cc) (λ x. cc)
 
   pub turns : (past : History) (control : Control) (now : Option Context) → TurnKeeps control (turn_of layout past control now)
   turns past control None = same control

@@ -25,10 +25,11 @@ use Rattle.ak_model.specs.Queue.{is_in}
 use Rattle.ak_model.specs.Control.{Control}
 use Rattle.ak_model.specs.Answers.{answer, write_out_answer, remove_by}
 use Rattle.ak_model.specs.Trace.{trace}
+use Rattle.ak_model.proofs.Tests.{any_in_range, or_other}
 use Rattle.ak_model.proofs.Changes.{ok_holds, handle_holds, exit_holds}
 use Rattle.ak_model.proofs.Cycling.{cycles-wait}
 use Rattle.ak_model.proofs.OneCopy.{frame_ok, load_fair, page_if, va_fair}
-use Rattle.ak_model.proofs.Someone.{other, any_at, is_someone}
+use Rattle.ak_model.proofs.Someone.{other, is_someone}
 use Rattle.ak_model.proofs.Placed.{placed}
 
 -- ---- What an answer says of the change
@@ -102,15 +103,11 @@ module _ (lp : ℕ) where
   early layout past [] h = tt
   early layout past (cycle ∷ older) h = ((λ l. absurd (let high = h.0.high in omega arith)), early layout past older h.1)
 
-  second : (a b : Bool) → a ≡ false → (a || b) ≡ true → b ≡ true
-  second true b e h = absurd (cc)
-  second false b e h = h
-
   kept_by : (test : ℕ → Bool) (q : ℕ) (rest : List ℕ) (same b : Bool) → (q == lp) ≡ same → test q ≡ b → test lp ≡ true → (is_in rest lp ≡ true → is_in (filter test rest) lp ≡ true) → is_in (q ∷ rest) lp ≡ true → is_in (cond b (q ∷ filter test rest) (filter test rest)) lp ≡ true
   kept_by test q rest true true e t h later here = or_left (q == lp) _ e
   kept_by test q rest true false e t h later here = absurd (let x = subst (λ y. test y ≡ true) (sym (eqb-true q lp e)) h in cc)
-  kept_by test q rest false true e t h later here = or_right (q == lp) _ (later (second (q == lp) (is_in rest lp) e here))
-  kept_by test q rest false false e t h later here = later (second (q == lp) (is_in rest lp) e here)
+  kept_by test q rest false true e t h later here = or_right (q == lp) _ (later (or_other (q == lp) (is_in rest lp) e here))
+  kept_by test q rest false false e t h later here = later (or_other (q == lp) (is_in rest lp) e here)
 
   kept : (test : ℕ → Bool) (all : List ℕ) → test lp ≡ true → is_in all lp ≡ true → is_in (filter test all) lp ≡ true
   kept test [] t h = h
@@ -166,7 +163,7 @@ module _ (layout : Layout) (lp f p : ℕ) where
     new_waits : is_in (filter (inside past) (processors layout)) lp ≡ true
     new_waits =
         let same : (lp == lp) ≡ true = eq-eqb lp lp refl in
-        kept lp (inside past) (processors layout) within (any_at (λ q. q == lp) layout.lps 0 lp (omega arith) (omega arith) same)
+        kept lp (inside past) (processors layout) within (any_in_range (λ q. q == lp) layout.lps 0 lp (omega arith) (omega arith) same)
 
     cycled : (blocked : Option ℕ) → IfBlocked lp blocked (cycles layout past) → IfBlocked lp blocked (cycles_after layout past Cycles (cycles layout past))
     cycled None h = tt

@@ -24,9 +24,10 @@ use Rattle.ak_model.specs.StepRows.{guards}
 use Rattle.ak_model.specs.Stops.{is_stopped, says_stopped, shows_stop}
 use Rattle.ak_model.specs.Orderly.{ContextFits, NowFits, PhaseFits, IsOrderly, TurnIsOrderly, MomentIsOrderly, after_turn}
 use Rattle.ak_model.specs.BlamedMove.{changed}
+use Rattle.ak_model.proofs.Tests.{either_way}
 use Rattle.ak_model.proofs.Placed.{placed}
 use Rattle.ak_model.proofs.Moved.{Reading, reading, each_move, interrupted_same}
-use Rattle.ak_model.proofs.OrderlySteps.{ClustersFit}
+use Rattle.ak_model.proofs.OrderlySteps.{ClustersFit, first_is_some}
 use Rattle.ak_model.proofs.OrderlyTurns.{turn_fits}
 use Rattle.ak_model.proofs.ValidClusters.{clusters_fit}
 use Rattle.ak_model.proofs.Orderly.{trace_is_orderly}
@@ -41,17 +42,9 @@ TurnStops control (Goes next) = StopsWith control Still next
 TurnStops control (Leaves exit next) = StopsWith control exit next
 
 module _ (layout : Layout) where
-  first_some : (o : Option Cause) (cause : Cause) → is_some (first_cause o cause) ≡ true
-  first_some None cause = refl
-  first_some (Some earlier) cause = refl
-
   stuck_by : (b : Bool) (o : Option Cause) (cause : Cause) → is_some o ≡ true → is_some (if b then first_cause o cause else o) ≡ true
-  stuck_by true o cause h = first_some o cause
+  stuck_by true o cause h = first_is_some o cause
   stuck_by false o cause h = h
-
-  if_stops : (b : Bool) (control : Control) (t u : Turn) → TurnStops control t → TurnStops control u → TurnStops control (if b then t else u)
-  if_stops true control t u h k = h
-  if_stops false control t u h k = k
 
   -- ---- One turn
 
@@ -63,13 +56,13 @@ module _ (layout : Layout) where
     -- there is a cause
     dies : (exit : Exit) (next : Control) (cause : Cause) → next.cause ≡ first_cause control.cause cause → StopsWith control exit next
     dies exit next cause e =
-        let some : is_some next.cause ≡ true = subst (λ o. is_some o ≡ true) (sym e) (first_some control.cause cause) in
+        let some : is_some next.cause ≡ true = subst (λ o. is_some o ≡ true) (sym e) (first_is_some control.cause cause) in
         record { stays = λ h. some; shown = λ h. some }
 
     by_reason : (k : ℕ) (inner : Context) (reason : Reason) (older : List Saved) → TurnStops control (handle layout control k (record { context = inner; reason = reason } ∷ older))
     by_reason k inner Interrupted older = same Exit.Nothing _ refl refl
     by_reason k inner Cleared older = same Exit.Nothing _ refl refl
-    by_reason k inner (Faulted t) older = if_stops (k == 2) control _ _ (dies Stopped _ _ refl) (dies Stopped _ _ refl)
+    by_reason k inner (Faulted t) older = either_way (TurnStops control) (k == 2) _ _ (dies Stopped _ _ refl) (dies Stopped _ _ refl)
     by_reason k inner (Raised v) older = same (Exit.Trapped v) _ refl refl
     by_reason k inner Denied older = same (Exit.Trapped 14) _ refl refl
     by_reason k inner Broke older = dies Stopped _ _ refl
@@ -136,7 +129,7 @@ module _ (layout : Layout) where
     events (Some (Call i b a)) = same Still _ refl refl
     events (Some (Miss i c)) = same (Exit.Pf _ _) _ refl refl
     events (Some (Break i)) = same (Exit.Pf _ _) _ refl refl
-    events (Some (Trap i v)) = if_stops (v == 14) control _ _ (same (Exit.Pf _ _) _ refl refl) (same (Exit.Vector v) _ refl refl)
+    events (Some (Trap i v)) = either_way (TurnStops control) (v == 14) _ _ (same (Exit.Pf _ _) _ refl refl) (same (Exit.Vector v) _ refl refl)
 
     turn_stops : (past : History) (now : Option Context) → PhaseFits layout control.queue control.cause control.phase → NowFits layout control.phase control.stack now → TurnStops control (turn_of layout past control now)
     turn_stops past None p fits = same Still _ refl refl

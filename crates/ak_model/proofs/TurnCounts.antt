@@ -1,6 +1,6 @@
 -- How a turn's count stands to the count that the trace came to.
 use Rattle.std.proofs.Common.{◌≡◌, ℕ, zero, suc, ◌≤◌, List, [], ◌∷◌, ◌++◌, arith}
-use Rattle.std.specs.Prelude.{Bool, true, false, if◌then◌else◌, Option, Some, None, nat_lt, ◌==◌}
+use Rattle.std.specs.Prelude.{true, Option, Some, None, nat_lt, ◌==◌}
 use Rattle.ak_core.specs.Layout.{Layout}
 use Rattle.ak_core.specs.declared.event.Event.{Event}
 use Rattle.ak_core.specs.declared.event.Event.TheVariants.{Call, Miss, Trap, Break}
@@ -15,6 +15,7 @@ use Rattle.ak_model.specs.Trace.{Moment, step, trace}
 use Rattle.ak_model.specs.ProgramTurns.{ProgramTurn, turn_in, turns_after, turns_of_run, turns_of_move, program_turns}
 use Rattle.ak_model.specs.Premises.{IsCounted}
 use Rattle.ak_model.specs.Forced.{EachTurn}
+use Rattle.ak_model.proofs.Tests.{either_way}
 use Rattle.ak_model.proofs.TapeRuns.{after, runtime_count}
 use Rattle.ak_model.proofs.Placed.{placed}
 use Rattle.ak_model.proofs.Moved.{each_move, interrupted_same}
@@ -40,10 +41,6 @@ each_append : (bound : ℕ) (made older : List ProgramTurn) → CountsEach bound
 each_append bound made older h k = alone-append (λ turn. IsCounted bound turn.count turn.event) made older h k
 
 module _ (layout : Layout) where
-  if_counts : (b : Bool) (t u : Turn) (count : ℕ) → count ≤ (after t).count → count ≤ (after u).count → count ≤ (after (if b then t else u)).count
-  if_counts true t u count e f = e
-  if_counts false t u count e f = f
-
   -- ---- One turn
 
   event_counts : (control : Control) (event : Option Event) → IsCounted (after (event_turn layout control event)).count control.count event
@@ -51,7 +48,7 @@ module _ (layout : Layout) where
   event_counts control (Some (Call i b a)) = omega arith
   event_counts control (Some (Miss i c)) = omega arith
   event_counts control (Some (Break i)) = omega arith
-  event_counts control (Some (Trap i v)) = if_counts (v == 14) _ _ control.count (omega arith) (omega arith)
+  event_counts control (Some (Trap i v)) = either_way (λ t. control.count ≤ (after t).count) (v == 14) _ _ (omega arith) (omega arith)
 
   counts_le : (bound count : ℕ) (event : Option Event) → IsCounted bound count event → count ≤ bound
   counts_le bound count None h = omega arith

@@ -1,6 +1,6 @@
 -- The event of a turn is one of the tape's, at the turn's count.
 use Rattle.std.proofs.Common.{◌≡◌, ℕ, zero, suc, List, [], ◌∷◌, refl, sym, subst}
-use Rattle.std.specs.Prelude.{nat_lt, Bool, true, false, if◌then◌else◌, Option, Some, None, ◌==◌}
+use Rattle.std.specs.Prelude.{nat_lt, Bool, true, false, Option, Some, None, ◌==◌}
 use Rattle.std.specs.Bool.{then_some}
 use Rattle.std.proofs.lemmas.Bool.{eqb-true}
 use Rattle.ak_core.specs.Layout.{Layout}
@@ -17,6 +17,7 @@ use Rattle.ak_model.specs.Turns.{turn_of, turn, go_on, run}
 use Rattle.ak_model.specs.Trace.{Moment, step, trace}
 use Rattle.ak_model.specs.ProgramTurns.{ProgramTurn, turn_in, turns_after, turns_of_run, turns_of_move, program_turns}
 use Rattle.ak_model.specs.Forced.{EachTurn}
+use Rattle.ak_model.proofs.Tests.{either_way}
 use Rattle.ak_model.proofs.Placed.{placed}
 use Rattle.ak_model.proofs.Moved.{each_move, interrupted_same}
 use Rattle.ak_model.proofs.TapeRuns.{after, runtime_rest}
@@ -53,16 +54,12 @@ module _ (layout : Layout) (Q : Event → Type 0) where
   first_off [] h = tt
   first_off (event ∷ rest) h = h.1
 
-  if_rest : (b : Bool) (t u : Turn) → Rest (after t) → Rest (after u) → Rest (after (if b then t else u))
-  if_rest true t u h k = h
-  if_rest false t u h k = k
-
   event_rest : (control : Control) (event : Option Event) → Rest control → Rest (after (event_turn layout control event))
   event_rest control None h = h
   event_rest control (Some (Call i b a)) h = first_off control.rest h
   event_rest control (Some (Miss i c)) h = first_off control.rest h
   event_rest control (Some (Break i)) h = first_off control.rest h
-  event_rest control (Some (Trap i v)) h = if_rest (v == 14) _ _ (first_off control.rest h) (first_off control.rest h)
+  event_rest control (Some (Trap i v)) h = either_way (λ t. Rest (after t)) (v == 14) _ _ (first_off control.rest h) (first_off control.rest h)
 
   step_rest : (past : History) (control : Control) (context : Context) → Rest control → Rest (after (runtime_turn layout past control context))
   step_rest past control context h = subst (EachEvent Q) (sym (runtime_rest layout past control context)) h

@@ -1,10 +1,9 @@
 -- Where the turns of the program stand: each comes in a run of a processor that is inside, the laws of the control state hold
 -- before it, and what was asked of each moment holds there.
 use Rattle.std.proofs.Common.{◌≡◌, ℕ, zero, suc, List, [], ◌∷◌, ◌++◌, map, reverse, refl, sym, ◌∙◌, subst}
-use Rattle.std.specs.Prelude.{Bool, true, false, ◌&&◌, if◌then◌else◌, Option, Some, None}
+use Rattle.std.specs.Prelude.{Bool, true, false, if◌then◌else◌, Option, Some, None}
 use Rattle.std.specs.List.{list_all}
 use Rattle.std.proofs.lemmas.Bool.{and_parts, ltb-true}
-use Rattle.std.proofs.lemmas.List.{reverse-append}
 use Rattle.std.proofs.lemmas.List.Folds.{list_all-append, list_all-map}
 use Rattle.ak_core.specs.Layout.{Layout, IsValid}
 use Rattle.ak_core.specs.declared.event.Event.{Event}
@@ -22,6 +21,7 @@ use Rattle.ak_model.specs.ProgramTurns.{ProgramTurn, turn_at, turn_in, turns_aft
 use Rattle.ak_model.specs.Forced.{EachTurn, queue_by}
 use Rattle.ak_model.specs.Premises.{MissesFit}
 use Rattle.ak_model.specs.Orderly.{IsOrderly, TurnIsOrderly}
+use Rattle.ak_model.proofs.Tests.{all_of_reverse}
 use Rattle.ak_model.proofs.TapeRuns.{after}
 use Rattle.ak_model.proofs.Placed.{placed}
 use Rattle.ak_model.proofs.Someone.{is_someone}
@@ -31,14 +31,6 @@ use Rattle.ak_model.proofs.ValidClusters.{clusters_fit}
 use Rattle.ak_model.proofs.Orderly.{trace_is_orderly}
 use Rattle.ak_model.proofs.Stays.{Kept, same, then_kept, TurnKeeps, turns}
 use Rattle.ak_model.proofs.Completed.{completed, joined, turn-completed, trace-completed}
-
-all_of_reverse : {A : Type 0} (test : A → Bool) (xs : List A) → list_all test (reverse xs) ≡ true → list_all test xs ≡ true
-all_of_reverse test [] h = refl
-all_of_reverse test (x ∷ xs) h =
-    let split : list_all test (reverse xs ++ x ∷ []) ≡ true = subst (λ l. list_all test l ≡ true) (reverse-append (x ∷ []) xs) h in
-    let both = and_parts (list_all test (reverse xs)) (test x && true) (sym (list_all-append test (reverse xs) (x ∷ [])) ∙ split) in
-    let here = (and_parts (test x) true both.1).0 in
-    rw here (all_of_reverse test xs both.0)
 
 module _ (layout : Layout) (tape : List Event) (test : Moment → Bool) where
   -- it holds of each moment so far

@@ -1,7 +1,7 @@
 -- Each page of a cluster that is in was mapped at some earlier moment: at its probe, or at the build.
 use Rattle.std.proofs.Common.{◌≡◌, ◌⊎◌, inl, inr, ℕ, zero, suc, ◌<◌, List, [], ◌∷◌, ◌++◌, length, drop, arith, refl, ap, sym, ◌∙◌, subst}
-use Rattle.std.specs.Prelude.{Bool, true, false, not, ◌||◌, slice_index, if◌then◌else◌, Option, Some, None, nat_lt, ◌==◌}
-use Rattle.std.proofs.lemmas.Bool.{eqb-true, eqb-false, lt-ltb, or_cases}
+use Rattle.std.specs.Prelude.{Bool, true, false, not, slice_index, if◌then◌else◌, Option, Some, None, nat_lt, ◌==◌}
+use Rattle.std.proofs.lemmas.Bool.{or_right, eqb-true, eqb-false, lt-ltb, or_cases}
 use Rattle.std.proofs.lemmas.List.{drop_all}
 use Rattle.std.proofs.lemmas.Option.{slice_get-get_or}
 use Rattle.ak_core.specs.Layout.{Layout, IsValid}
@@ -33,6 +33,7 @@ use Rattle.ak_model.specs.Forced.{queue_by}
 use Rattle.ak_model.specs.Premises.{MissesFit}
 use Rattle.ak_model.specs.Honours.{is_mapped}
 use Rattle.ak_model.specs.Orderly.{ContextFits, NowFits, SavedFits, StackFits, IsOrderly, TurnIsOrderly, after_turn}
+use Rattle.ak_model.proofs.Tests.{either_way}
 use Rattle.ak_model.proofs.Placed.{placed}
 use Rattle.ak_model.proofs.Moved.{each_move}
 use Rattle.ak_model.proofs.Clusters.{out-drop}
@@ -56,12 +57,8 @@ in-append [] x c h = elim (or_cases (x == c) false h) [ inl e ↦ inr (eqb-true 
 in-append (y ∷ queue) x c h =
     elim (or_cases (y == c) (is_in (queue ++ x ∷ []) c) h) [
       | inl e ↦ inl (rw e refl)
-      | inr later ↦ elim (in-append queue x c later) [ inl i ↦ inl (either (y == c) (is_in queue c) i) | inr s ↦ inr s ]
+      | inr later ↦ elim (in-append queue x c later) [ inl i ↦ inl (or_right (y == c) (is_in queue c) i) | inr s ↦ inr s ]
     ]
-  where
-    either : (a b : Bool) → b ≡ true → (a || b) ≡ true
-    either true b e = refl
-    either false b e = e
 
 module _ (layout : Layout) where
   -- the page was mapped at some moment
@@ -140,10 +137,6 @@ module _ (layout : Layout) where
       now = now;
     }
 
-    either : (b : Bool) (t u : Turn) → TurnEver past t → TurnEver past u → TurnEver past (if b then t else u)
-    either true t u h k = h
-    either false t u h k = k
-
     lone_top : (phase : Phase) (stack : List Saved) → length stack ≡ 1 → AllProbed past phase (guard_top stack)
     lone_top phase [] h = tt
     lone_top phase (saved ∷ []) h = (tt, tt)
@@ -155,7 +148,7 @@ module _ (layout : Layout) where
     by_reason k inner (Raised v) older e h = moved _ refl refl tt
     by_reason k inner Denied older e h = moved _ refl refl tt
     by_reason k inner Broke older e h = moved _ refl refl tt
-    by_reason k inner (Faulted t) older e h = either (k == 2) _ _ (moved _ refl refl tt) (moved _ refl refl tt)
+    by_reason k inner (Faulted t) older e h = either_way (TurnEver past) (k == 2) _ _ (moved _ refl refl tt) (moved _ refl refl tt)
     by_reason k inner (Missed c) older e h =
         let fits : ContextFits layout control.phase (length older) Program = subst (ContextFits layout control.phase (length older)) h.reason.0 h.context in
         record {
@@ -292,7 +285,7 @@ module _ (layout : Layout) where
     event_ever (Some (Call i b a)) = record { queue = old.queue; stack = old.stack; now = tt }
     event_ever (Some (Miss i c)) = left_program (shown_fault layout) (Missed c)
     event_ever (Some (Break i)) = left_program (shown_fault layout) Broke
-    event_ever (Some (Trap i v)) = either (v == 14) (leave_program (shown_fault layout) Denied control) (leave_program (Exit.Vector v) (Raised v) control) (left_program (shown_fault layout) Denied) (left_program (Exit.Vector v) (Raised v))
+    event_ever (Some (Trap i v)) = either_way (TurnEver past) (v == 14) (leave_program (shown_fault layout) Denied control) (leave_program (Exit.Vector v) (Raised v) control) (left_program (shown_fault layout) Denied) (left_program (Exit.Vector v) (Raised v))
 
     turn_by : (now : Option Context) → control.now ≡ now → NowFits layout control.phase control.stack now → TurnEver past (turn_of layout past control now)
     turn_by None n h = old
