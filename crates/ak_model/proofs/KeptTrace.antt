@@ -27,6 +27,7 @@ use Rattle.ak_model.specs.Honours.{entered_since_ask, is_finish_now, fetched_by}
 use Rattle.ak_model.specs.BlamedMove.{changed, before_faulting, IsAskedFor}
 use Rattle.ak_model.specs.Orderly.{ContextFits, FaultFits, StackFits, probed, is_live, IsOrderly}
 use Rattle.ak_model.proofs.Moved.{Reading, reading}
+use Rattle.ak_model.proofs.OrderlySteps.{some_asked}
 use Rattle.ak_model.proofs.OrderlyMoves.{not_refused}
 use Rattle.ak_model.proofs.Orderly.{trace_is_orderly}
 use Rattle.ak_model.proofs.PresentTrace.{counts_right}
@@ -35,7 +36,7 @@ use Rattle.ak_model.proofs.LeftTurns.{stack_probes, has_probing, is_ask, StepFau
 use Rattle.ak_model.proofs.Did.{Finished, Holds}
 use Rattle.ak_model.proofs.BlamedTrace.{passed}
 use Rattle.ak_model.proofs.StopsAt.{did_next}
-use Rattle.ak_model.proofs.LastFault.{Unfetched, FaultAt, Kept, mild_at, deep, guard_alone, asked_for, some_asked, not_fetched}
+use Rattle.ak_model.proofs.LastFault.{Unfetched, FaultAt, Kept, mild_at, deep, guard_alone, asked_for, not_fetched}
 
 -- what came back stays, while no turn leaves
 pub since_probing : (start control : Control) → Since start control → is_asked control.phase ≡ true → has_probing control ≡ true → (is_asked start.phase ≡ true) × (has_probing start ≡ true)

@@ -1,8 +1,9 @@
 -- What a move does at a moment: nothing that the control state reads, or somebody enters, resumes, is interrupted or runs.
-use Rattle.std.proofs.Common.{◌≡◌, ℕ, ◌+◌, ◌<◌, List, [], ◌∷◌, length, map, reverse, refl, sym, subst}
+use Rattle.std.proofs.Common.{◌≡◌, ℕ, ◌+◌, ◌<◌, List, [], ◌∷◌, length, map, reverse, refl, sym, ◌∙◌, subst}
 use Rattle.std.specs.Prelude.{Bool, true, false, not, if◌then◌else◌, Option, Some, None, is_some, nat_lt, ◌==◌}
-use Rattle.std.specs.List.{list_any}
+use Rattle.std.specs.List.{list_any, list_all}
 use Rattle.std.proofs.lemmas.Bool.{ltb-true, eqb-false}
+use Rattle.std.proofs.lemmas.List.Folds.{list_all-map}
 use Rattle.ak_core.specs.Layout.{Layout}
 use Rattle.ak_core.specs.declared.moves.Move.{Move}
 use Rattle.ak_core.specs.declared.moves.Move.TheVariants.{ReadPte, Ewb, Eenter, Eresume, Run, Interrupt}
@@ -22,6 +23,7 @@ use Rattle.ak_model.specs.Blame.{faults, enters_at_one, resumes}
 use Rattle.ak_model.specs.Honours.{entered_after}
 use Rattle.ak_model.specs.BlamedMove.{changed}
 use Rattle.ak_model.specs.Stops.{says_stopped}
+use Rattle.ak_model.proofs.Tests.{all_of_reverse}
 use Rattle.ak_model.proofs.Changes.{ok_holds, handle_holds}
 use Rattle.ak_model.proofs.Someone.{other, is_someone, outside_ok}
 
@@ -88,6 +90,13 @@ ran layout moment lp n =
       turns = reverse (turns_of_run layout lp moment.past n moment.control);
       moments = map (λ control. record moment { control = control }) (reverse (before_turns layout moment.past n moment.control));
     }
+
+-- what each moment before the turns of a run passes, each control state there does
+pub turns_all : (layout : Layout) (test : Moment → Bool) (moment : Moment) (n : ℕ) → list_all test (map (λ control. record moment { control = control }) (reverse (before_turns layout moment.past n moment.control))) ≡ true → list_all (λ control. test (record { past = moment.past; control = control })) (before_turns layout moment.past n moment.control) ≡ true
+turns_all layout test moment n h =
+    let controls : List Control = before_turns layout moment.past n moment.control in
+    all_of_reverse (λ control. test (record { past = moment.past; control = control })) controls
+    (sym (list_all-map test (λ control. record moment { control = control }) (reverse controls)) ∙ h)
 
 -- what an interrupt leaves as it is
 pub record IsSame (control next : Control) : Type 0 where

@@ -1,10 +1,10 @@
 -- A kernel that keeps its rules sees no stop, where the program breaks no access: runs, moves and whole traces.
-use Rattle.std.proofs.Common.{◌≡◌, ◌⊎◌, inl, inr, ℕ, zero, suc, List, [], ◌∷◌, ◌++◌, length, map, reverse, arith, refl, ap, sym, ◌∙◌, subst, append_assoc}
+use Rattle.std.proofs.Common.{◌≡◌, ◌⊎◌, inl, inr, ℕ, zero, suc, List, [], ◌∷◌, ◌++◌, length, reverse, arith, refl, ap, sym, ◌∙◌, subst, append_assoc}
 use Rattle.std.specs.Prelude.{Bool, true, false, not, ◌&&◌, Option, Some, None, is_some, nat_lt, ◌==◌}
 use Rattle.std.specs.List.{list_all}
 use Rattle.std.proofs.lemmas.Bool.{and_parts, eq-eqb, not-true}
 use Rattle.std.proofs.lemmas.List.{reverse-append}
-use Rattle.std.proofs.lemmas.List.Folds.{list_all-append, list_all-map}
+use Rattle.std.proofs.lemmas.List.Folds.{list_all-append}
 use Rattle.ak_core.specs.Layout.{Layout, IsValid}
 use Rattle.ak_core.specs.declared.moves.Exit.{Exit}
 use Rattle.ak_core.specs.declared.moves.Exit.TheVariants.{Still, Ask}
@@ -28,9 +28,8 @@ use Rattle.ak_model.specs.Orderly.{ContextFits, StackFits, IsOrderly, TurnIsOrde
 use Rattle.ak_model.specs.Ends.{Runs}
 use Rattle.ak_model.specs.Blamed.{is_break}
 use Rattle.ak_model.specs.ProgramStep.{due}
-use Rattle.ak_model.proofs.Tests.{all_of_reverse}
 use Rattle.ak_model.proofs.Placed.{placed}
-use Rattle.ak_model.proofs.Moved.{Reading, reading, Effect, effect, each_move}
+use Rattle.ak_model.proofs.Moved.{Reading, reading, Effect, effect, each_move, turns_all}
 use Rattle.ak_model.proofs.OrderlySteps.{ClustersFit}
 use Rattle.ak_model.proofs.OrderlyTurns.{turn_fits}
 use Rattle.ak_model.proofs.ValidClusters.{clusters_fit}
@@ -153,12 +152,6 @@ module _ (layout : Layout) (fit : ClustersFit layout) (runs : Runs) where
 
   -- ---- Whole traces
 
-  turns_all : (test : Moment → Bool) (moment : Moment) (n : ℕ) → list_all test (map (λ control. record moment { control = control }) (reverse (before_turns layout moment.past n moment.control))) ≡ true → list_all (λ control. test (record { past = moment.past; control = control })) (before_turns layout moment.past n moment.control) ≡ true
-  turns_all test moment n h =
-      let controls : List Control = before_turns layout moment.past n moment.control in
-      all_of_reverse (λ control. test (record { past = moment.past; control = control })) controls
-      (sym (list_all-map test (λ control. record moment { control = control }) (reverse controls)) ∙ h)
-
   abbrev At : Moment → Type 0
   At moment = IsCalm (entered_since_ask moment.past) moment.control
 
@@ -181,7 +174,7 @@ module _ (layout : Layout) (fit : ClustersFit layout) (runs : Runs) where
         runs = λ lp n d someone h.
             ran_after past lp (run layout past n control)
             (run_calm lp past someone n older control (subst (λ x. IsOrderly layout (queue_by layout older) x control) someone orderly) old h.0
-            (turns_all (keeps_mapped layout) moment n h.1) (turns_all (keeps_fetched layout) moment n h.2));
+            (turns_all layout (keeps_mapped layout) moment n h.1) (turns_all layout (keeps_fetched layout) moment n h.2));
       })
       low m
 

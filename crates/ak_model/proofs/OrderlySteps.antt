@@ -22,6 +22,11 @@ pub first_is_some : (earlier : Option Cause) (cause : Cause) → is_some (first_
 first_is_some None cause = refl
 first_is_some (Some earlier) cause = refl
 
+-- only while a cluster is asked for are there pages that are asked for
+pub some_asked : (layout : Layout) (phase : Phase) (i : ℕ) → i < length (asked_pages layout phase) → is_asked phase ≡ true
+some_asked layout (Asked c) i h = refl
+some_asked layout _ i h = absurd (omega arith)
+
 -- each cluster has a page, and fits the budget
 pub record ClustersFit (layout : Layout) : Type 0 where
   pub some_page : (c : ℕ) → c < layout.clusters → 1 ≤ length (pages_of layout c)
@@ -194,17 +199,8 @@ module _ (layout : Layout) (fit : ClustersFit layout) (so_far : List ℕ) (contr
 
   -- ---- Probes
 
-  some_asked : (phase : Phase) (i : ℕ) → i < length (asked_pages layout phase) → is_asked phase ≡ true
-  some_asked (Asked c) i h = refl
-  some_asked New i h = absurd (omega arith)
-  some_asked Running i h = absurd (omega arith)
-  some_asked Calling i h = absurd (omega arith)
-  some_asked (Ended s) i h = absurd (omega arith)
-  some_asked (Trapped x) i h = absurd (omega arith)
-  some_asked Dead i h = absurd (omega arith)
-
   probe_by : (i : ℕ) (last : Bool) → (suc i == length (asked_pages layout control.phase)) ≡ last → ContextFits layout control.phase (length control.stack) (Probe i) → IsOrderly layout so_far true (record control { now = if last then Some Finish else Some (Probe (suc i)) })
-  probe_by i true e h = goes_to Finish (h.0, some_asked control.phase i h.1)
+  probe_by i true e h = goes_to Finish (h.0, some_asked layout control.phase i h.1)
   probe_by i false e h =
       let differ = eqb-false (suc i) (length (asked_pages layout control.phase)) e in
       let small : i < length (asked_pages layout control.phase) = h.1 in

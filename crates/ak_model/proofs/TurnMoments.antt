@@ -4,7 +4,7 @@ use Rattle.std.proofs.Common.{◌≡◌, ℕ, zero, suc, List, [], ◌∷◌, �
 use Rattle.std.specs.Prelude.{Bool, true, false, if◌then◌else◌, Option, Some, None}
 use Rattle.std.specs.List.{list_all}
 use Rattle.std.proofs.lemmas.Bool.{and_parts, ltb-true}
-use Rattle.std.proofs.lemmas.List.Folds.{list_all-append, list_all-map}
+use Rattle.std.proofs.lemmas.List.Folds.{list_all-append}
 use Rattle.ak_core.specs.Layout.{Layout, IsValid}
 use Rattle.ak_core.specs.declared.event.Event.{Event}
 use Rattle.ak_core.specs.declared.moves.Move.{Move}
@@ -21,7 +21,7 @@ use Rattle.ak_model.specs.ProgramTurns.{ProgramTurn, turn_at, turn_in, turns_aft
 use Rattle.ak_model.specs.Forced.{EachTurn, queue_by}
 use Rattle.ak_model.specs.Premises.{MissesFit}
 use Rattle.ak_model.specs.Orderly.{IsOrderly, TurnIsOrderly}
-use Rattle.ak_model.proofs.Tests.{all_of_reverse}
+use Rattle.ak_model.proofs.Moved.{turns_all}
 use Rattle.ak_model.proofs.TapeRuns.{after}
 use Rattle.ak_model.proofs.Placed.{placed}
 use Rattle.ak_model.proofs.Someone.{is_someone}
@@ -110,12 +110,6 @@ module _ (layout : Layout) (tape : List Event) (test : Moment → Bool) where
 
     -- ---- Moves
 
-    turns_all : (moment : Moment) (n : ℕ) → list_all test (map (λ control. record moment { control = control }) (reverse (before_turns layout moment.past n moment.control))) ≡ true → list_all (λ control. test (record { past = moment.past; control = control })) (before_turns layout moment.past n moment.control) ≡ true
-    turns_all moment n h =
-        let controls : List Control = before_turns layout moment.past n moment.control in
-        all_of_reverse (λ control. test (record { past = moment.past; control = control })) controls
-        (sym (list_all-map test (λ control. record moment { control = control }) (reverse controls)) ∙ h)
-
     within_each : (moves : List Move) (lp n : ℕ) (b : Bool) → inside (trace layout tape moves).past lp ≡ b → AllMoments moves → list_all test (if b then map (λ control. record (trace layout tape moves) { control = control }) (reverse (before_turns layout (trace layout tape moves).past n (trace layout tape moves).control)) else []) ≡ true → EachTurn P (program_turns layout tape moves) → EachTurn P ((if b then reverse (turns_of_run layout lp (trace layout tape moves).past n (trace layout tape moves).control) else []) ++ program_turns layout tape moves)
     within_each moves lp n false e all tests h = h
     within_each moves lp n true e all tests h =
@@ -128,7 +122,7 @@ module _ (layout : Layout) (tape : List Event) (test : Moment → Bool) where
           counted = trace-completed layout tape moves;
           so_far = h;
         })
-        (turns_all moment n tests)
+        (turns_all layout test moment n tests)
 
     move_each : (moves : List Move) (m : Move) → AllMoments moves → list_all test (turn_moments layout (trace layout tape moves) m) ≡ true → EachTurn P (program_turns layout tape moves) → EachTurn P (turns_of_move layout (trace layout tape moves) m ++ program_turns layout tape moves)
     move_each moves (Run lp n) all tests h = within_each moves lp.0 n (inside (trace layout tape moves).past lp.0) refl all tests h
