@@ -1,8 +1,10 @@
 -- Each stop of a sound journal has a move to blame, which broke a rule.
-use Rattle.std.proofs.Common.{◌≡◌, ◌⊎◌, inl, inr, ℕ, zero, suc, ◌+◌, ◌<◌, ◌≤◌, List, [], ◌∷◌, ◌++◌, length, drop, reverse, max, append_assoc, length-append, length-drop, arith, refl, ap, sym, ◌∙◌, subst}
-use Rattle.std.specs.Prelude.{slice_index, Bool, true, false, not, ◌&&◌, ◌||◌, Option, Some, None, nat_le, ◌==◌}
-use Rattle.std.specs.List.{range_with_len, list_all}
-use Rattle.std.proofs.lemmas.Bool.{and_parts, eqb-true, eqb-false, eq-eqb, or_parts, leb-true, leb-false, not-false, false_from_ne_true}
+use Rattle.std.proofs.Common.{◌≡◌, ◌⊎◌, inl, inr, ℕ, ◌+◌, ◌<◌, ◌≤◌, List, [], ◌∷◌, ◌++◌, length, drop, reverse, max, append_assoc, length-append, length-drop, arith, refl, ap, sym, ◌∙◌, subst}
+use Rattle.std.specs.Prelude.{slice_index, Bool, true, false, not, Option, Some, None, nat_le, ◌==◌}
+use Rattle.std.specs.List.{list_all}
+use Rattle.std.proofs.lemmas.Bool.{and_parts, eq-eqb, or_parts, leb-true, leb-false, not-false, false_from_ne_true}
+use Rattle.std.proofs.lemmas.List.{length-reverse}
+use Rattle.std.proofs.Math.Seq.{drop-append_seam}
 use Rattle.ak_core.specs.Layout.{Layout, IsValid}
 use Rattle.ak_core.specs.Journal.{Journal}
 use Rattle.ak_core.specs.Mem.{Touch}
@@ -33,8 +35,7 @@ use Rattle.ak_model.specs.Honours.{is_mapped, cluster_is_mapped, runtime_pages, 
 use Rattle.ak_model.specs.BlamedMove.{told_at, IsTold, IsAskedFor, TookAway, LeftUnfetched, IsBlamed, BlamedIn}
 use Rattle.ak_model.specs.Orderly.{ContextFits, ReasonFits, SavedFits, StackFits, IsOwnAccess, is_live, miss_of, oldest_miss, after_miss_if, ServedBy}
 use Rattle.ak_model.specs.Reached.{touches_next}
-use Rattle.std.proofs.lemmas.List.{length-reverse}
-use Rattle.std.proofs.Math.Seq.{drop-append_seam}
+use Rattle.ak_model.proofs.Tests.{implied, all_in_range}
 use Rattle.ak_model.proofs.ClusterPages.{page_stands}
 use Rattle.ak_model.proofs.Losses.{lost_some}
 use Rattle.ak_model.proofs.LostSome.{lost-own}
@@ -53,30 +54,16 @@ use Rattle.ak_model.proofs.MovesAt.{dropped, MoveAt, places, Found, lost_move, i
 
 -- ---- The first rule is broken
 
-ranged_by : (test : ℕ → Bool) (a p : ℕ) (rest : List ℕ) (same : Bool) → (a == p) ≡ same → (test a && list_all test rest) ≡ true → ((a ≡ p → ⊥) → list_all test rest ≡ true → test p ≡ true) → test p ≡ true
-ranged_by test a p rest true e all go = subst (λ x. test x ≡ true) (eqb-true a p e) (and_parts (test a) (list_all test rest) all).0
-ranged_by test a p rest false e all go = go (eqb-false a p e) (and_parts (test a) (list_all test rest) all).1
-
--- what holds of each number of a range holds of one
-ranged : (test : ℕ → Bool) (n a p : ℕ) → a ≤ p → p < a + n → list_all test (range_with_len a n) ≡ true → test p ≡ true
-ranged test zero a p low high all = absurd (omega arith)
-ranged test (suc n) a p low high all =
-    ranged_by test a p (range_with_len (a + 1) n) (a == p) refl all (λ ne rest. ranged test n (a + 1) p (omega arith) (omega arith) rest)
-
-or_second : (a b : Bool) → a ≡ true → (not a || b) ≡ true → b ≡ true
-or_second true b e h = h
-or_second false b e h = absurd (cc)
-
 module _ (layout : Layout) (moment : Moment) (someone : someone_inside layout moment.past ≡ true) (t : Touch) (lost : touch_walkable layout moment.past t ≡ false) where
   mapped_parts : keeps_mapped layout moment ≡ true → (list_all (is_mapped layout moment.past) (runtime_pages layout) ≡ true) × (list_all (cluster_is_mapped layout moment.past) moment.control.queue ≡ true)
   mapped_parts h =
-      let all = or_second (someone_inside layout moment.past) _ someone h in
+      let all = implied (someone_inside layout moment.past) _ someone h in
       let most = and_parts (tcs_walkable layout moment.past) _ all in
       and_parts (list_all (is_mapped layout moment.past) (runtime_pages layout)) _ most.1
 
   pub own_broken : IsOwnAccess layout t → keeps_mapped layout moment ≡ false
   own_broken own = false_from_ne_true (keeps_mapped layout moment) (λ h.
-      let page : is_mapped layout moment.past t.page.0 ≡ true = ranged (is_mapped layout moment.past) 5 (pages layout + 1) t.page.0 (let low = own.0 in omega arith) (let high = own.1 in omega arith) (mapped_parts h).0 in
+      let page : is_mapped layout moment.past t.page.0 ≡ true = all_in_range (is_mapped layout moment.past) 5 (pages layout + 1) t.page.0 (let low = own.0 in omega arith) (let high = own.1 in omega arith) (mapped_parts h).0 in
       let walks : touch_walkable layout moment.past t ≡ true = subst (λ kind. walkable layout moment.past t.page.0 kind ≡ true) (sym own.2) page in cc)
 
   program_broken : t.page.0 < pages layout → permits layout t.page.0 t.kind ≡ true → is_in moment.control.queue (cluster_at layout t.page.0) ≡ true → keeps_mapped layout moment ≡ false

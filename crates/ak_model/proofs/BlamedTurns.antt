@@ -1,6 +1,6 @@
 -- What stands behind the move to blame: one turn, and a run.
 use Rattle.std.proofs.Common.{◌≡◌, ℕ, zero, suc, List, [], ◌∷◌, ◌++◌, append_assoc, length, arith, refl, ap, sym, ◌∙◌, subst}
-use Rattle.std.specs.Prelude.{Bool, true, false, not, reverse, if◌then◌else◌, Option, Some, None, ◌==◌}
+use Rattle.std.specs.Prelude.{Bool, true, false, reverse, if◌then◌else◌, Option, Some, None, ◌==◌}
 use Rattle.std.proofs.lemmas.List.{reverse-append}
 use Rattle.ak_core.specs.Layout.{Layout}
 use Rattle.ak_core.specs.Mem.{Touch}
@@ -12,13 +12,15 @@ use Rattle.ak_model.specs.History.{History}
 use Rattle.ak_model.specs.Walk.{touch_walkable}
 use Rattle.ak_model.specs.Control.{Phase, New, Running, Calling, Asked, Ended, Trapped, Dead, Context, Program, Entry, Probe, Finish, Guard, Leave, Reason, Interrupted, Cleared, Raised, Denied, Missed, Broke, Faulted, Saved, Control}
 use Rattle.ak_model.specs.Turn.{Turn, Goes, Leaves}
-use Rattle.ak_model.specs.RuntimeStep.{asked_pages, touches, first_fault, step_fault, guard_top, program_at_bottom, shown_fault, handle, enter, finish, resume_guard, leave_call, effect, unless_fault, runtime_turn}
+use Rattle.ak_model.specs.RuntimeStep.{asked_pages, touches, step_fault, guard_top, program_at_bottom, shown_fault, handle, enter, finish, resume_guard, leave_call, effect, unless_fault, runtime_turn}
 use Rattle.ak_model.specs.ProgramStep.{due, leave_program, event_turn}
 use Rattle.ak_model.specs.Turns.{turn_of, turn, Ran, go_on, run, unless_left, before_turns}
 use Rattle.ak_model.specs.ProgramTurns.{ProgramTurn, turn_in, turns_in, turns_of_run}
 use Rattle.ak_model.specs.Blame.{is_fault}
 use Rattle.ak_model.specs.Blamed.{newest_refusal, FaultStands, is_guard, BlameStands}
 use Rattle.ak_model.specs.Orderly.{ContextFits, NowFits, SavedFits, StackFits, is_live, IsOrderly, TurnIsOrderly, after_turn}
+use Rattle.ak_model.proofs.Unwalkable.{unwalkable}
+use Rattle.ak_model.proofs.Tests.{either_way}
 use Rattle.ak_model.proofs.OrderlySteps.{ClustersFit}
 use Rattle.ak_model.proofs.OrderlyTurns.{turn_fits}
 
@@ -44,10 +46,6 @@ module _ (layout : Layout) (past : History) (resumed : ℕ) where
     free : (next : Control) → newest_refusal next.stack ≡ None → is_guard next.now ≡ false → BlameStands layout before resumed turns next
     free next r g = record { fault = λ h. subst (FaultStands layout before turns) (sym r) tt; guard = λ h. absurd (cc) }
 
-    either : (b : Bool) (t u : Turn) → TurnStands before turns t → TurnStands before turns u → TurnStands before turns (if b then t else u)
-    either true t u h k = h
-    either false t u h k = k
-
     top_free : (stack : List Saved) → length stack ≡ 1 → newest_refusal (guard_top stack) ≡ None
     top_free [] h = absurd (omega arith)
     top_free (saved ∷ []) h = refl
@@ -64,7 +62,7 @@ module _ (layout : Layout) (past : History) (resumed : ℕ) where
     by_reason k inner (Raised v) older e h = over _ refl refl
     by_reason k inner Denied older e h = over _ refl refl
     by_reason k inner Broke older e h = over _ refl refl
-    by_reason k inner (Faulted t) older e h = either (k == 2) _ _ (over _ refl refl) (over _ refl refl)
+    by_reason k inner (Faulted t) older e h = either_way (TurnStands before turns) (k == 2) _ _ (over _ refl refl) (over _ refl refl)
     by_reason k inner (Missed c) older e h =
         let fits : ContextFits layout control.phase (length older) Program = subst (ContextFits layout control.phase (length older)) h.reason.0 h.context in
         free _ (top_free control.stack (ap length e ∙ ap suc fits.0)) refl
@@ -125,18 +123,6 @@ module _ (layout : Layout) (past : History) (resumed : ℕ) where
 
     -- ---- A step that faults
 
-    not_walkable : (b : Bool) (x t : Touch) (later : Option Touch) → touch_walkable layout past x ≡ b → (later ≡ Some t → touch_walkable layout past t ≡ false) → (if not b then Some x else later) ≡ Some t → touch_walkable layout past t ≡ false
-    not_walkable true x t later e go h = go h
-    not_walkable false x t later e go h = let same : x ≡ t = cc in subst (λ y. touch_walkable layout past y ≡ false) same e
-
-    first_unwalkable : (all : List Touch) (t : Touch) → first_fault layout past all ≡ Some t → touch_walkable layout past t ≡ false
-    first_unwalkable [] t h = absurd (cc)
-    first_unwalkable (x ∷ all) t h = not_walkable (touch_walkable layout past x) x t (first_fault layout past all) refl (first_unwalkable all t) h
-
-    unwalkable : (walks : Bool) (all : List Touch) (t : Touch) → (if walks then first_fault layout past all else None) ≡ Some t → touch_walkable layout past t ≡ false
-    unwalkable true all t h = first_unwalkable all t h
-    unwalkable false all t h = absurd (cc)
-
     unless_stands : (next : Context) (o : Option Touch) → ContextFits layout control.phase (length control.stack) next → ((t : Touch) → o ≡ Some t → touch_walkable layout past t ≡ false) → TurnStands before turns (unless_fault layout control next o)
     unless_stands next None h at = effect_stands next h
     unless_stands next (Some t) h at = record { fault = λ l. at t refl; guard = λ g. absurd (cc) }
@@ -144,7 +130,7 @@ module _ (layout : Layout) (past : History) (resumed : ℕ) where
     runtime_stands : (next : Context) → ContextFits layout control.phase (length control.stack) next → TurnStands before turns (runtime_turn layout past control next)
     runtime_stands next h =
         unless_stands next (step_fault layout past (touches layout control next)) h
-        (unwalkable (steps_walk layout.build) (touches layout control next))
+        (unwalkable layout past (steps_walk layout.build) (touches layout control next))
 
     -- ---- A turn of the program
 

@@ -13,6 +13,7 @@ use Rattle.ak_model.specs.ProgramStep.{due, without_first, leave_program, event_
 use Rattle.ak_model.specs.Blamed.{is_break}
 use Rattle.ak_model.specs.Honours.{entered_after}
 use Rattle.ak_model.specs.Orderly.{ContextFits, StackFits, SavedFits, IsOrderly}
+use Rattle.ak_model.proofs.Stacks.{top_length}
 
 -- no step faulted and no access broke
 abbrev pub ReasonCalm : Reason → Type 0
@@ -48,10 +49,6 @@ bottom_calm : (stack : List Saved) → StackCalm stack → StackCalm (program_at
 bottom_calm [] h = tt
 bottom_calm (saved ∷ []) h = (tt, tt)
 bottom_calm (saved ∷ next ∷ older) h = (h.0, bottom_calm (next ∷ older) h.1)
-
-top_length : (stack : List Saved) → length (guard_top stack) ≡ length stack
-top_length [] = refl
-top_length (saved ∷ older) = refl
 
 module _ (layout : Layout) (so_far : List ℕ) (entered : Bool) (control : Control) (orderly : IsOrderly layout so_far true control) (old : IsCalm entered control) (context : Context) (is_now : control.now ≡ Some context) where
   was_entered : is_asked control.phase ≡ true → entered ≡ true

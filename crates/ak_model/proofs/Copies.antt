@@ -2,6 +2,7 @@
 use Rattle.std.proofs.Common.{◌≡◌, ℕ, ◌+◌, ◌<◌, arith, refl, subst}
 use Rattle.std.specs.Prelude.{Bool, true, false, ◌&&◌, ◌||◌, if◌then◌else◌, Option, Some, None, ◌==◌}
 use Rattle.std.proofs.lemmas.Bool.Decides.{nat_tests}
+use Rattle.std.proofs.lemmas.Bool.{or_parts}
 use Rattle.ak_model.specs.Holdings.{Held, FreeFrame, VaFrame, PageFrame, Place, InFrame, Sealed, Gone}
 
 -- what is held, placed, slotted, given, sealed and discarded agrees
@@ -115,10 +116,6 @@ module _ (held : ℕ → Held) (place : ℕ → Place) (slot : ℕ → ℕ → O
   keeps_framed : (k : ℕ) (x : Place) (f : ℕ) → x ≡ InFrame f → Rattle.ak_model.specs.Handles.gone_if x k ≡ InFrame f
   keeps_framed k x f e = rw e refl
 
-  not_or : (a b : Bool) → (a || b) ≡ false → (a ≡ false) × (b ≡ false)
-  not_or false b h = (refl, h)
-  not_or true b h = absurd (cc)
-
   -- a handle is discarded
   pub discards : (k : ℕ) → k < given → Agrees held (λ p. Rattle.ak_model.specs.Handles.gone_if (place p) k) slot given page_of (λ j. (j == k) || discarded j)
   discards k hk = record {
@@ -128,7 +125,7 @@ module _ (held : ℕ → Held) (place : ℕ → Place) (slot : ℕ → ℕ → O
     known = λ p j h. old.known p j (gone_sealed k (place p) j h).0;
     kept = λ p j h. let a = old.kept p j (gone_sealed k (place p) j h).0 in let b = (gone_sealed k (place p) j h).1 in grind (arith, nat_tests, a, b);
     slotted = old.slotted;
-    newest = λ va i j h d. keeps_sealed k (place (page_of j)) j (old.newest va i j h (not_or (j == k) (discarded j) d).1) (not_or (j == k) (discarded j) d).0;
+    newest = λ va i j h d. keeps_sealed k (place (page_of j)) j (old.newest va i j h (or_parts (j == k) (discarded j) d).1) (or_parts (j == k) (discarded j) d).0;
     same_va = old.same_va;
     same_slot = old.same_slot;
     gone = λ j h. let a = old.gone j in grind (arith, nat_tests, a);

@@ -1,43 +1,27 @@
 -- The kernel can count the saved contexts, the pending flag and the queue from the answers.
 use Rattle.std.proofs.Common.{◌≡◌, ℕ, zero, suc, List, [], ◌∷◌, ◌++◌, length, drop, take, arith, refl, ap, sym, ◌∙◌, subst}
-use Rattle.std.specs.Prelude.{Bool, true, false, ◌||◌, if◌then◌else◌, Option, Some, None, ◌==◌, is_some, not, nat_lt}
+use Rattle.std.specs.Prelude.{Bool, true, ◌||◌, Option, Some, None, ◌==◌, is_some, nat_lt}
 use Rattle.ak_core.specs.Layout.{Layout}
 use Rattle.ak_core.specs.Mem.{Touch}
 use Rattle.ak_core.specs.declared.moves.Exit.{Exit}
 use Rattle.ak_core.specs.declared.moves.Exit.TheVariants.{Vector, Still}
 use Rattle.ak_core.specs.declared.event.Event.{Event}
 use Rattle.ak_core.specs.declared.event.Event.TheVariants.{Call as CallEvent, Miss, Trap, Break}
-use Rattle.ak_core.specs.declared.moves.Answer.{Answer}
-use Rattle.ak_core.specs.declared.moves.Answer.TheVariants.{Ok, NoLp, Outside}
-use Rattle.ak_model.specs.History.{History, Change, Unchanged, Maps, Blocks, Cycles, WritesOut, Loads, Removes, MakesVa, Discards, Enters, Resumes, Exits, Interrupts, if_ok, if_left, if_exit, if_handle}
+use Rattle.ak_core.specs.declared.moves.Move.{Move}
+use Rattle.ak_model.specs.History.{History, Resumes, Exits, Interrupts, if_left}
 use Rattle.ak_model.specs.Queue.{drops}
 use Rattle.ak_model.specs.Control.{Phase, New, Running, Calling, Asked, Ended, Trapped, Dead, Context, Program, Entry, Probe, Finish, Guard, Leave, Reason, Interrupted, Cleared, Raised, Denied, Missed, Broke, Faulted, Saved, Control, cssa}
 use Rattle.ak_model.specs.Turn.{Turn, Goes, Leaves}
-use Rattle.ak_model.specs.RuntimeStep.{touches, step_fault, guard_top, guarded_twice, program_at_bottom, shown_fault, ask, handle, enter, finish, resume_guard, leave_call, effect, unless_fault}
+use Rattle.ak_model.specs.RuntimeStep.{touches, step_fault, shown_fault, ask, handle, enter, finish, resume_guard, leave_call, effect, unless_fault}
 use Rattle.ak_model.specs.ProgramStep.{due, leave_program, event_turn}
 use Rattle.ak_model.specs.Turns.{turn_of, turn, Ran, go_on, run}
-use Rattle.ak_model.specs.Entering.{entered, resumed_by, on_ok, interrupted_by, on_exit}
-use Rattle.ak_model.specs.Counted.{is_asynchronous, more_if, saved_after, pending_after, Request, Service, with_served, service_by, service_after, service, IsRequested, Counts, CountsRight}
-use Rattle.ak_model.proofs.Someone.{IsQuiet, quiet_ok, quiet_handle}
+use Rattle.ak_model.specs.Entering.{resumed_by, interrupted_by}
+use Rattle.ak_model.specs.Counted.{is_asynchronous, more_if, Request, Service, with_served, service_by, service, IsRequested, Counts, CountsRight}
 use Rattle.ak_model.specs.Trace.{Moment, step}
 use Rattle.ak_model.specs.Inside.{inside}
-use Rattle.ak_model.specs.Answers.{answer}
-use Rattle.ak_core.specs.declared.moves.Move.{Move}
-use Rattle.ak_core.specs.declared.moves.Move.TheVariants.{SetPte, ReadPte, Eblock, Etrack, Ewb, Eldu, Eldb, Eremove, Epa, Discard, Eenter, Eresume, Run, Interrupt}
-
-top_length : (stack : List Saved) → length (guard_top stack) ≡ length stack
-top_length [] = refl
-top_length (saved ∷ older) = refl
-
-twice_length : (stack : List Saved) → length (guarded_twice stack) ≡ length stack
-twice_length [] = refl
-twice_length (saved ∷ []) = refl
-twice_length (saved ∷ next ∷ older) = refl
-
-bottom_length : (stack : List Saved) → length (program_at_bottom stack) ≡ length stack
-bottom_length [] = refl
-bottom_length (saved ∷ []) = refl
-bottom_length (saved ∷ next ∷ older) = ap suc (bottom_length (next ∷ older))
+use Rattle.ak_model.proofs.Stacks.{top_length, twice_length, bottom_length}
+use Rattle.ak_model.proofs.Tests.{either_way}
+use Rattle.ak_model.proofs.Moved.{Reading, reading, each_move}
 
 module _ (layout : Layout) where
   abbrev TurnCounts : ℕ → Bool → Service → Turn → Type 0
@@ -51,10 +35,6 @@ module _ (layout : Layout) where
 
     gone : Counts saved pending service (record control { now = None })
     gone = settled _ refl refl refl old.requested
-
-    either : (b : Bool) (t u : Turn) → TurnCounts saved pending service t → TurnCounts saved pending service u → TurnCounts saved pending service (if b then t else u)
-    either true t u h k = h
-    either false t u h k = k
 
     asked : (c : ℕ) → TurnCounts saved pending service (ask layout control c)
     asked c = record {
@@ -71,7 +51,7 @@ module _ (layout : Layout) where
     by_reason k inner Denied older = settled _ (top_length control.stack) refl refl tt
     by_reason k inner Broke older = settled _ (top_length control.stack) refl refl tt
     by_reason k inner (Missed c) older = asked c
-    by_reason k inner (Faulted t) older = either (k == 2) _ _ (settled _ (twice_length control.stack) refl refl tt) (settled _ (top_length control.stack) refl refl tt)
+    by_reason k inner (Faulted t) older = either_way (TurnCounts saved pending service) (k == 2) _ _ (settled _ (twice_length control.stack) refl refl tt) (settled _ (top_length control.stack) refl refl tt)
 
     handled : (k : ℕ) (stack : List Saved) → TurnCounts saved pending service (handle layout control k stack)
     handled k [] = gone
@@ -146,7 +126,7 @@ module _ (layout : Layout) where
     event_counts (Some (CallEvent i b a)) = settled _ refl refl refl old.requested
     event_counts (Some (Miss i c)) = left_program (shown_fault layout) (Missed c) refl refl
     event_counts (Some (Break i)) = left_program (shown_fault layout) Broke refl refl
-    event_counts (Some (Trap i v)) = either (v == 14) _ _ (left_program (shown_fault layout) Denied refl refl) (left_program (Vector v) (Raised v) refl refl)
+    event_counts (Some (Trap i v)) = either_way (TurnCounts saved pending service) (v == 14) _ _ (left_program (shown_fault layout) Denied refl refl) (left_program (Vector v) (Raised v) refl refl)
 
     turn_by : (past : History) (now : Option Context) → TurnCounts saved pending service (turn_of layout past control now)
     turn_by past None = old
@@ -173,48 +153,20 @@ module _ (layout : Layout) where
 
   -- ---- A move
 
-  abbrev After : ℕ → Bool → Service → Change → Control → Type 0
-  After saved pending service c control = Counts (saved_after c saved) (pending_after c pending) (service_after c service) control
-
   module _ (saved : ℕ) (pending : Bool) (service : Service) (control : Control) (old : Counts saved pending service control) where
-    quiet : (c : Change) → IsQuiet layout c → After saved pending service c control
-    quiet Unchanged q = old
-    quiet (Maps p f flags) q = old
-    quiet (Blocks f) q = old
-    quiet Cycles q = old
-    quiet (WritesOut f va i k) q = old
-    quiet (Loads f k p va i blocked) q = old
-    quiet (Removes f) q = old
-    quiet (MakesVa f) q = old
-    quiet (Discards k) q = old
-    quiet (Enters lp v) q = absurd q
-    quiet (Resumes lp) q = absurd q
-    quiet (Exits lp exit) q = absurd q
-    quiet (Interrupts lp) q = absurd q
+    -- what stands after a move that this is read of
+    abbrev After : Reading → Control → Type 0
+    After change next = Counts (change.saved saved) (change.pending pending) (change.service service) next
 
-    enter_after : (lp v : ℕ) (a : Answer) → After saved pending service (if_ok a (Enters lp v)) (on_ok a control (entered control v))
-    enter_after lp v Ok = record { saved_is = old.saved_is; pending_is = refl; queue_is = old.queue_is; requested = old.requested }
-    enter_after lp v _ = old
-
-    resumed : (lp : ℕ) (stack : List Saved) → control.stack ≡ stack → After saved pending service (Resumes lp) (resumed_by control stack)
-    resumed lp [] e = record {
-      saved_is = (let l = old.saved_is in let n : cssa control ≡ 0 = ap length e in omega arith);
-      pending_is = old.pending_is;
-      queue_is = old.queue_is;
-      requested = old.requested;
-    }
-    resumed lp (saved ∷ older) e = record {
+    resumed : (lp : ℕ) (newest : Saved) (older : List Saved) → control.stack ≡ newest ∷ older → After (reading (Resumes lp)) (resumed_by control (newest ∷ older))
+    resumed lp newest older e = record {
       saved_is = (let l = old.saved_is in let n : cssa control ≡ suc (length older) = ap length e in omega arith);
       pending_is = old.pending_is;
       queue_is = old.queue_is;
       requested = old.requested;
     }
 
-    resume_after : (lp : ℕ) (a : Answer) → After saved pending service (if_ok a (Resumes lp)) (on_ok a control (resumed_by control control.stack))
-    resume_after lp Ok = resumed lp control.stack refl
-    resume_after lp _ = old
-
-    interrupted : (lp : ℕ) (now : Option Context) → is_some now ≡ true → After saved pending service (Interrupts lp) (interrupted_by control now)
+    interrupted : (lp : ℕ) (now : Option Context) → is_some now ≡ true → After (reading (Interrupts lp)) (interrupted_by control now)
     interrupted lp None some = absurd (cc)
     interrupted lp (Some context) some = record {
       saved_is = (let l = old.saved_is in omega arith);
@@ -223,35 +175,21 @@ module _ (layout : Layout) where
       requested = old.requested;
     }
 
-    interrupt_after : (lp : ℕ) (there within : Bool) → (within ≡ true → is_some control.now ≡ true) → (let a = if not there then NoLp else (if not within then Outside else Ok) in After saved pending service (if_ok a (Interrupts lp)) (on_ok a control (interrupted_by control control.now)))
-    interrupt_after lp false within some = old
-    interrupt_after lp true false some = old
-    interrupt_after lp true true some = interrupted lp control.now (some refl)
-
-    left_after : (lp : ℕ) (exit : Exit) (next : Control) → Counts (more_if (is_asynchronous exit) saved) (is_asynchronous exit || pending) (service_by exit service) next → After saved pending service (if_left exit (Exits lp exit)) next
+    left_after : (lp : ℕ) (exit : Exit) (next : Control) → Counts (more_if (is_asynchronous exit) saved) (is_asynchronous exit || pending) (service_by exit service) next → After (reading (if_left exit (Exits lp exit))) next
     left_after lp Still next h = h
     left_after lp exit next h = h
 
-    run_after : (past : History) (lp n : ℕ) (there within : Bool) → (let a = if not there then NoLp else (if not within then Outside else Answer.Exit (run layout past n control).exit) in After saved pending service (if_exit a (λ exit. Exits lp exit)) (on_exit a control (run layout past n control).control))
-    run_after past lp n false within = old
-    run_after past lp n true false = old
-    run_after past lp n true true =
-        let ran = run layout past n control in
-        left_after lp ran.exit ran.control (run_counts saved pending service past n control old)
-
   -- one more move
-  pub step_counts : (moment : Moment) (m : Move) → ((p : ℕ) → inside moment.past p ≡ true → is_some moment.control.now ≡ true) → CountsRight layout moment → CountsRight layout (step layout moment m)
-  step_counts moment (ReadPte p) context old = old
-  step_counts moment (Eenter lp v) context old = enter_after _ _ _ moment.control old lp.0 v (answer layout moment.past moment.control (Eenter lp v))
-  step_counts moment (Eresume lp) context old = resume_after _ _ _ moment.control old lp.0 (answer layout moment.past moment.control (Eresume lp))
-  step_counts moment (Run lp n) context old = run_after _ _ _ moment.control old moment.past lp.0 n (nat_lt lp.0 layout.lps) (inside moment.past lp.0)
-  step_counts moment (Interrupt lp) context old = interrupt_after _ _ _ moment.control old lp.0 (nat_lt lp.0 layout.lps) (inside moment.past lp.0) (context lp.0)
-  step_counts moment (SetPte p f flags) context old = quiet _ _ _ moment.control old (if_ok (answer layout moment.past moment.control (SetPte p f flags)) _) (quiet_ok layout (answer layout moment.past moment.control (SetPte p f flags)) _ tt)
-  step_counts moment (Eblock f) context old = quiet _ _ _ moment.control old (if_ok (answer layout moment.past moment.control (Eblock f)) _) (quiet_ok layout (answer layout moment.past moment.control (Eblock f)) _ tt)
-  step_counts moment Etrack context old = quiet _ _ _ moment.control old (if_ok (answer layout moment.past moment.control Etrack) _) (quiet_ok layout (answer layout moment.past moment.control Etrack) _ tt)
-  step_counts moment (Ewb f va i) context old = quiet _ _ _ moment.control old (if_handle (answer layout moment.past moment.control (Ewb f va i)) _) (quiet_handle layout (answer layout moment.past moment.control (Ewb f va i)) _ (λ k. tt))
-  step_counts moment (Eldu f k p va i) context old = quiet _ _ _ moment.control old (if_ok (answer layout moment.past moment.control (Eldu f k p va i)) _) (quiet_ok layout (answer layout moment.past moment.control (Eldu f k p va i)) _ tt)
-  step_counts moment (Eldb f k p va i) context old = quiet _ _ _ moment.control old (if_ok (answer layout moment.past moment.control (Eldb f k p va i)) _) (quiet_ok layout (answer layout moment.past moment.control (Eldb f k p va i)) _ tt)
-  step_counts moment (Eremove f) context old = quiet _ _ _ moment.control old (if_ok (answer layout moment.past moment.control (Eremove f)) _) (quiet_ok layout (answer layout moment.past moment.control (Eremove f)) _ tt)
-  step_counts moment (Epa f) context old = quiet _ _ _ moment.control old (if_ok (answer layout moment.past moment.control (Epa f)) _) (quiet_ok layout (answer layout moment.past moment.control (Epa f)) _ tt)
-  step_counts moment (Discard k) context old = quiet _ _ _ moment.control old (if_ok (answer layout moment.past moment.control (Discard k)) _) (quiet_ok layout (answer layout moment.past moment.control (Discard k)) _ tt)
+  pub step_counts : (moment : Moment) (m : Move) → ((p : ℕ) → inside moment.past p ≡ true → nat_lt p layout.lps ≡ true) → ((p : ℕ) → inside moment.past p ≡ true → is_some moment.control.now ≡ true) → CountsRight layout moment → CountsRight layout (step layout moment m)
+  step_counts moment m low context old =
+      each_move layout moment (λ e. After _ _ _ moment.control old e.change e.next)
+      (record {
+        quiet = old;
+        enters = λ lp v there out few. record { saved_is = old.saved_is; pending_is = refl; queue_is = old.queue_is; requested = old.requested };
+        resumes = λ lp newest older there out free e. resumed _ _ _ moment.control old lp newest older e;
+        interrupts = λ lp d. interrupted _ _ _ moment.control old lp moment.control.now (context lp d);
+        runs = λ lp n d someone.
+            let ran = run layout moment.past n moment.control in
+            left_after _ _ _ moment.control old lp ran.exit ran.control (run_counts _ _ _ moment.past n moment.control old);
+      })
+      low m

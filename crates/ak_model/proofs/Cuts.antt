@@ -12,6 +12,7 @@ use Rattle.ak_model.specs.Turn.{Turn}
 use Rattle.ak_model.specs.ProgramStep.{count_of, due, event_turn, program_turn}
 use Rattle.ak_model.specs.Premises.{all_but_last, IsLater}
 use Rattle.ak_model.specs.Trace.{trace}
+use Rattle.ak_model.proofs.Tests.{either_way}
 use Rattle.ak_model.proofs.Tapes.{on_turn}
 use Rattle.ak_model.proofs.TapeRuns.{after, tape_map, moment_map, trace_maps}
 
@@ -19,14 +20,6 @@ abbrev at_rest : List Event → Control → Control
 at_rest rest control = record control { rest = rest }
 
 module _ (layout : Layout) where
-  if_rest : (b : Bool) (t u : Turn) (rest : List Event) → (after t).rest ≡ rest → (after u).rest ≡ rest → (after (if b then t else u)).rest ≡ rest
-  if_rest true t u rest e f = e
-  if_rest false t u rest e f = f
-
-  if_count : (b : Bool) (t u : Turn) (count : ℕ) → count ≤ (after t).count → count ≤ (after u).count → count ≤ (after (if b then t else u)).count
-  if_count true t u count e f = e
-  if_count false t u count e f = f
-
   if_maps : (b : Bool) (f : Control → Control) (t u t' u' : Turn) → t' ≡ on_turn f t → u' ≡ on_turn f u → (if b then t' else u') ≡ on_turn f (if b then t else u)
   if_maps true f t u t' u' d e = d
   if_maps false f t u t' u' d e = e
@@ -36,13 +29,13 @@ module _ (layout : Layout) where
   taken_rest control (Call i b a) rest = refl
   taken_rest control (Miss i c) rest = refl
   taken_rest control (Break i) rest = refl
-  taken_rest control (Trap i v) rest = if_rest (v == 14) _ _ rest refl refl
+  taken_rest control (Trap i v) rest = either_way (λ t. (after t).rest ≡ rest) (v == 14) _ _ refl refl
 
   taken_count : (control : Control) (x : Event) (rest : List Event) → control.count ≤ (after (event_turn layout (at_rest (x ∷ rest) control) (Some x))).count
   taken_count control (Call i b a) rest = omega arith
   taken_count control (Miss i c) rest = omega arith
   taken_count control (Break i) rest = omega arith
-  taken_count control (Trap i v) rest = if_count (v == 14) _ _ control.count (omega arith) (omega arith)
+  taken_count control (Trap i v) rest = either_way (λ t. control.count ≤ (after t).count) (v == 14) _ _ (omega arith) (omega arith)
 
   -- a taken event over another rest
   taken_maps : (g : List Event → List Event) (control : Control) (x : Event) (rest : List Event) → event_turn layout (at_rest (x ∷ g rest) control) (Some x) ≡ on_turn (tape_map g) (event_turn layout (at_rest (x ∷ rest) control) (Some x))

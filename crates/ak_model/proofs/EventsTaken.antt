@@ -1,6 +1,6 @@
 -- The events that the turns of the program give, with those that are left, are the tape; so the misses of a sound journal fit.
 use Rattle.std.proofs.Common.{◌≡◌, ℕ, zero, suc, ◌+◌, ◌<◌, ◌≤◌, List, [], ◌∷◌, ◌++◌, length, arith, refl, ap, ◌∙◌, subst}
-use Rattle.std.specs.Prelude.{Bool, true, false, not, if◌then◌else◌, reverse, filter_map, slice_index, Option, Some, None, nat_lt, ◌==◌}
+use Rattle.std.specs.Prelude.{Bool, true, false, if◌then◌else◌, reverse, filter_map, slice_index, Option, Some, None, nat_lt, ◌==◌}
 use Rattle.std.specs.Bool.{then_some}
 use Rattle.std.proofs.lemmas.Bool.{eqb-true, ltb-true}
 use Rattle.std.proofs.lemmas.List.{reverse-append}
@@ -8,29 +8,26 @@ use Rattle.ak_core.specs.Layout.{Layout, IsValid, number_on, numbers_from}
 use Rattle.ak_core.specs.declared.event.Event.{Event}
 use Rattle.ak_core.specs.declared.event.Event.TheVariants.{Call, Miss, Trap, Break}
 use Rattle.ak_core.specs.declared.moves.Move.{Move}
-use Rattle.ak_core.specs.declared.moves.Move.TheVariants.{SetPte, ReadPte, Eblock, Etrack, Ewb, Eldu, Eldb, Eremove, Epa, Discard, Eenter, Eresume, Run, Interrupt}
-use Rattle.ak_core.specs.declared.moves.Answer.{Answer}
-use Rattle.ak_core.specs.declared.moves.Answer.TheVariants.{Ok, NoLp, Outside}
 use Rattle.ak_model.specs.Pages.{cluster_at}
 use Rattle.ak_model.specs.Build.{queue_at_build}
 use Rattle.ak_model.specs.History.{History}
 use Rattle.ak_model.specs.Inside.{inside}
 use Rattle.ak_model.specs.Queue.{after_miss, queue_after}
-use Rattle.ak_model.specs.Control.{Context, Program, Entry, Probe, Finish, Guard, Leave, Saved, Control}
+use Rattle.ak_model.specs.Control.{Context, Program, Entry, Probe, Finish, Guard, Leave, Control}
 use Rattle.ak_model.specs.Turn.{Turn, Goes, Leaves}
 use Rattle.ak_model.specs.ProgramStep.{count_of, due, without_first, event_turn}
 use Rattle.ak_model.specs.Turns.{turn_of, turn, go_on, run, unless_left, before_turns}
-use Rattle.ak_model.specs.Answers.{answer}
-use Rattle.ak_model.specs.Entering.{entered, resumed_by, interrupted_by, on_ok, on_exit}
 use Rattle.ak_model.specs.Trace.{Moment, step, trace}
 use Rattle.ak_model.specs.ProgramTurns.{ProgramTurn, turn_in, turns_in, turns_of_run, turns_of_move, program_turns}
 use Rattle.ak_model.specs.Premises.{MissesFit}
 use Rattle.ak_model.specs.Ends.{Runs}
 use Rattle.ak_model.specs.Forced.{EachTurn, missed_by, queue_by}
 use Rattle.ak_model.specs.Misses.{MissedBy}
+use Rattle.ak_model.proofs.Tests.{either_way}
 use Rattle.ak_model.proofs.TapeRuns.{after, runtime_rest}
 use Rattle.ak_model.proofs.Queues.{queue_after-more}
 use Rattle.ak_model.proofs.Placed.{placed}
+use Rattle.ak_model.proofs.Moved.{each_move, interrupted_same}
 
 -- ---- Events of turns
 
@@ -71,17 +68,13 @@ abbrev left : Option Event → List Event → List Event
 left None rest = rest
 left (Some event) rest = without_first rest
 
-either : (b : Bool) (t u : Turn) (rest : List Event) → (after t).rest ≡ rest → (after u).rest ≡ rest → (after (if b then t else u)).rest ≡ rest
-either true t u rest h k = h
-either false t u rest h k = k
-
 module _ (layout : Layout) where
   event_left : (control : Control) (event : Option Event) → (after (event_turn layout control event)).rest ≡ left event control.rest
   event_left control None = refl
   event_left control (Some (Call i b a)) = refl
   event_left control (Some (Miss i c)) = refl
   event_left control (Some (Break i)) = refl
-  event_left control (Some (Trap i v)) = either (v == 14) _ _ (without_first control.rest) refl refl
+  event_left control (Some (Trap i v)) = either_way (λ t. (after t).rest ≡ without_first control.rest) (v == 14) _ _ refl refl
 
   due_by : (event : Event) (rest : List Event) (b : Bool) → with_event (then_some b event) (left (then_some b event) (event ∷ rest)) ≡ event ∷ rest
   due_by event rest true = refl
@@ -116,44 +109,18 @@ module _ (layout : Layout) where
 
   -- ---- Moves
 
-  inside_taken : (there within : Bool) → (within ≡ true → there ≡ true) → (lp : ℕ) (past : History) (n : ℕ) (control : Control) → taken (if within then reverse (turns_of_run layout lp past n control) else []) (on_exit (if not there then NoLp else (if not within then Outside else Answer.Exit (run layout past n control).exit)) control (run layout past n control).control).rest ≡ control.rest
-  inside_taken true false known lp past n control = refl
-  inside_taken false false known lp past n control = refl
-  inside_taken true true known lp past n control =
-      taken_reverse (turns_of_run layout lp past n control) (run layout past n control).control.rest ∙ run_given lp past n control
-  inside_taken false true known lp past n control = let clash : false ≡ true = known refl in cc
-
-  ok_rest : (a : Answer) (control next : Control) → next.rest ≡ control.rest → (on_ok a control next).rest ≡ control.rest
-  ok_rest Ok control next e = e
-  ok_rest _ control next e = refl
-
-  resumed_rest : (control : Control) (stack : List Saved) → (resumed_by control stack).rest ≡ control.rest
-  resumed_rest control [] = refl
-  resumed_rest control (saved ∷ older) = refl
-
-  interrupted_rest : (control : Control) (now : Option Context) → (interrupted_by control now).rest ≡ control.rest
-  interrupted_rest control None = refl
-  interrupted_rest control (Some context) = refl
-
   move_taken : (moment : Moment) (m : Move) → ((lp : ℕ) → inside moment.past lp ≡ true → nat_lt lp layout.lps ≡ true) → taken (turns_of_move layout moment m) (step layout moment m).control.rest ≡ moment.control.rest
-  move_taken moment (Run lp n) known =
-      inside_taken (nat_lt lp.0 layout.lps) (inside moment.past lp.0) (known lp.0) lp.0 moment.past n moment.control
-  move_taken moment (Eenter lp v) known =
-      ok_rest (answer layout moment.past moment.control (Eenter lp v)) moment.control (entered moment.control v) refl
-  move_taken moment (Eresume lp) known =
-      ok_rest (answer layout moment.past moment.control (Eresume lp)) moment.control (resumed_by moment.control moment.control.stack) (resumed_rest moment.control moment.control.stack)
-  move_taken moment (Interrupt lp) known =
-      ok_rest (answer layout moment.past moment.control (Interrupt lp)) moment.control (interrupted_by moment.control moment.control.now) (interrupted_rest moment.control moment.control.now)
-  move_taken moment (SetPte p f flags) known = refl
-  move_taken moment (ReadPte p) known = refl
-  move_taken moment (Eblock f) known = refl
-  move_taken moment Etrack known = refl
-  move_taken moment (Ewb f va i) known = refl
-  move_taken moment (Eldu f k p va i) known = refl
-  move_taken moment (Eldb f k p va i) known = refl
-  move_taken moment (Eremove f) known = refl
-  move_taken moment (Epa f) known = refl
-  move_taken moment (Discard k) known = refl
+  move_taken moment m known =
+      each_move layout moment (λ e. taken e.turns e.next.rest ≡ moment.control.rest)
+      (record {
+        quiet = refl;
+        enters = λ lp v there out few. refl;
+        resumes = λ lp saved rest there out free e. refl;
+        interrupts = λ lp d. (interrupted_same moment.control moment.control.now).rest;
+        runs = λ lp n d someone.
+            taken_reverse (turns_of_run layout lp moment.past n moment.control) (run layout moment.past n moment.control).control.rest ∙ run_given lp moment.past n moment.control;
+      })
+      known m
 
   -- the events of all turns, and those that are left, are the tape
   pub trace-taken : (tape : List Event) (moves : List Move) → taken (program_turns layout tape moves) (trace layout tape moves).control.rest ≡ tape

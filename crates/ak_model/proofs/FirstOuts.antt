@@ -15,17 +15,18 @@ use Rattle.ak_model.specs.Inside.{since}
 use Rattle.ak_model.specs.Queue.{is_in}
 use Rattle.ak_model.specs.Control.{Program, Control}
 use Rattle.ak_model.specs.Trace.{trace}
-use Rattle.ak_model.specs.Flat.{Run, is_forbidden}
+use Rattle.ak_model.specs.Flat.{is_forbidden}
 use Rattle.ak_model.specs.Ends.{Runs}
 use Rattle.ak_model.specs.ProgramTurns.{ProgramTurn, turn_at, program_turns}
 use Rattle.ak_model.specs.Premises.{MissesFit}
-use Rattle.ak_model.specs.Reached.{MayComplete, reached_since, reached, touches_next, touches_at, permitted_touches}
+use Rattle.ak_model.specs.Reached.{MayComplete, reached_since, reached, touches_at, permitted_touches}
 use Rattle.ak_model.specs.Forced.{EachTurn, queue_by, IfCarriedOut, ReachedBy}
 use Rattle.ak_model.specs.Misses.{MissIsForced, MissedBy}
 use Rattle.ak_model.specs.Evicts.{keeps_out, Evicts}
 use Rattle.ak_model.specs.Ideal.{touches_of, first_out}
 use Rattle.ak_model.specs.Orderly.{NowFits}
-use Rattle.ak_model.proofs.ProgramPages.{AllLow, line_low}
+use Rattle.ak_model.proofs.Unbroken.{next_low}
+use Rattle.ak_model.proofs.ProgramPages.{AllLow}
 use Rattle.ak_model.proofs.OrderlyTurns.{in_program}
 use Rattle.ak_model.proofs.ReachedIn.{reached_in}
 use Rattle.ak_model.proofs.Completed.{completed}
@@ -61,10 +62,6 @@ passed layout x touches e =
 
 halted : (layout : Layout) (x : Touch) (touches : List Touch) → not (is_forbidden layout x) ≡ false → permitted_touches layout (x ∷ touches) ≡ []
 halted layout x touches e = rw e refl
-
-next_low : (layout : Layout) (run : Option Run) → AllLow layout (touches_next layout run)
-next_low layout None = tt
-next_low layout (Some run) = line_low layout run.flat
 
 -- the cluster of an access
 abbrev pub cluster_of : Layout → Touch → ℕ

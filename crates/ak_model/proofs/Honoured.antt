@@ -1,6 +1,6 @@
 -- Under a kernel that keeps its rules, no step of the runtime stops the enclave.
 use Rattle.std.proofs.Common.{◌≡◌, inl, inr, ℕ, zero, suc, ◌+◌, ◌-◌, ◌<◌, ◌≤◌, List, [], ◌∷◌, length, arith, refl, ap, ◌∙◌, subst}
-use Rattle.std.specs.Prelude.{Bool, true, false, not, ◌||◌, if◌then◌else◌, Option, Some, None, is_some, slice_index}
+use Rattle.std.specs.Prelude.{Bool, true, false, if◌then◌else◌, Option, Some, None, is_some, slice_index}
 use Rattle.std.specs.List.{list_all, list_any}
 use Rattle.std.proofs.lemmas.Bool.{and_parts}
 use Rattle.std.proofs.lemmas.Bool.Decides.{nat_tests}
@@ -22,12 +22,11 @@ use Rattle.ak_model.specs.Honours.{is_past_probes}
 use Rattle.ak_model.specs.Orderly.{ContextFits, NowFits, StackFits, IsOrderly}
 use Rattle.ak_model.specs.ProgramStep.{due}
 use Rattle.ak_model.specs.Blamed.{is_break}
+use Rattle.ak_model.proofs.OrderlyTurns.{rw_kind}
+use Rattle.ak_model.proofs.Tests.{implied, or_other}
 use Rattle.ak_model.proofs.Calm.{IsCalm, TurnCalm, runtime_calm, program_calm}
 
 module _ (layout : Layout) where
-  rw_kind : (p : ℕ) → pages layout < p → p < pages layout + 5 → strong_kind layout p ≡ Write
-  rw_kind p low high = grind (arith, nat_tests)
-
   rx_kind : (p : ℕ) → p ≡ pages layout + 5 → strong_kind layout p ≡ Exec
   rx_kind p e = grind (arith, nat_tests)
 
@@ -41,13 +40,9 @@ module _ (layout : Layout) where
   mapped_as : (past : History) (p q : ℕ) (kind : Kind) → is_mapped layout past p ≡ true → p ≡ q → strong_kind layout p ≡ kind → walkable layout past q kind ≡ true
   mapped_as past p q kind h e s = subst (λ x. walkable layout past x kind ≡ true) e (subst (λ k. walkable layout past p k ≡ true) s h)
 
-  or_right : (a b : Bool) → a ≡ true → (not a || b) ≡ true → b ≡ true
-  or_right true b e h = h
-  or_right false b e h = absurd (cc)
-
   walks : (past : History) (control : Control) → someone_inside layout past ≡ true → keeps_mapped layout (record { past = past; control = control }) ≡ true → RuntimeWalks past
   walks past control someone h =
-      let all = or_right (someone_inside layout past) _ someone h in
+      let all = implied (someone_inside layout past) _ someone h in
       let a = and_parts (tcs_walkable layout past) _ all in
       let b = and_parts (list_all (is_mapped layout past) (runtime_pages layout)) _ a.1 in
       let p0 = and_parts (is_mapped layout past (pages layout + 1)) _ b.0 in
@@ -57,9 +52,9 @@ module _ (layout : Layout) where
       let p4 = and_parts (is_mapped layout past (pages layout + 1 + 1 + 1 + 1 + 1)) _ p3.1 in
       record {
         code = mapped_as past _ (code_page layout) Exec p4.0 (omega arith) (rx_kind _ (omega arith));
-        state = mapped_as past _ (state_page layout) Write p3.0 (omega arith) (rw_kind _ (omega arith) (omega arith));
-        ssa0 = mapped_as past _ (ssa_page layout 0) Write p0.0 (omega arith) (rw_kind _ (omega arith) (omega arith));
-        ssa1 = mapped_as past _ (ssa_page layout 1) Write p1.0 (omega arith) (rw_kind _ (omega arith) (omega arith));
+        state = mapped_as past _ (state_page layout) Write p3.0 (omega arith) (rw_kind layout _ (omega arith) (omega arith));
+        ssa0 = mapped_as past _ (ssa_page layout 0) Write p0.0 (omega arith) (rw_kind layout _ (omega arith) (omega arith));
+        ssa1 = mapped_as past _ (ssa_page layout 1) Write p1.0 (omega arith) (rw_kind layout _ (omega arith) (omega arith));
       }
 
   -- ---- No step faults
@@ -118,12 +113,8 @@ module _ (layout : Layout) where
   probing : (past : History) (control : Control) (i : ℕ) (phase : Phase) → control.now ≡ Some (Probe i) → StackFits layout control.phase control.queue control.stack → length control.stack ≡ 1 → entered_since_ask past ≡ true → is_asked phase ≡ true → fetched_by layout (record { past = past; control = control }) phase ≡ true → list_all (is_mapped layout past) (asked_pages layout phase) ≡ true
   probing past control i (Asked c) n s l e a h =
       let done : probes_done layout c control ≡ false = rw n (none_past control.phase control.queue (length (pages_of layout c) - 1) control.stack s l) in
-      let g = or_right (entered_since_ask past) _ e h in
-      done_or (probes_done layout c control) (cluster_is_mapped layout past c) done g
-    where
-      done_or : (a b : Bool) → a ≡ false → (a || b) ≡ true → b ≡ true
-      done_or false b e h = h
-      done_or true b e h = absurd (cc)
+      let g = implied (entered_since_ask past) _ e h in
+      or_other (probes_done layout c control) (cluster_is_mapped layout past c) done g
   probing past control i New n s l e a h = absurd (cc)
   probing past control i Running n s l e a h = absurd (cc)
   probing past control i Calling n s l e a h = absurd (cc)

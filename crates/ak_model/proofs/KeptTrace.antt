@@ -10,32 +10,34 @@ use Rattle.ak_core.specs.declared.moves.Exit.TheVariants.{Still, Pf, Ask}
 use Rattle.ak_core.specs.declared.moves.Move.{Move}
 use Rattle.ak_model.specs.Pages.{pages}
 use Rattle.ak_model.specs.Build.{queue_at_build}
-use Rattle.ak_model.specs.History.{Change, Unchanged, Maps, Blocks, Cycles, WritesOut, Loads, Removes, MakesVa, Discards, Enters, Resumes, Exits, Interrupts, if_left}
+use Rattle.ak_model.specs.History.{Unchanged, Enters, Resumes, Exits, Interrupts, if_left}
 use Rattle.ak_model.specs.Inside.{someone_inside}
 use Rattle.ak_model.specs.Walk.{touch_walkable}
 use Rattle.ak_model.specs.Control.{Context, Program, Entry, Probe, Finish, Guard, Leave, Reason, Interrupted, Cleared, Raised, Denied, Missed, Broke, Faulted, Saved, Control, cssa, is_asked}
 use Rattle.ak_model.specs.RuntimeStep.{asked_pages, probed}
-use Rattle.ak_model.specs.Entering.{entered, interrupted_by}
+use Rattle.ak_model.specs.Entering.{entered, resumed_by, interrupted_by}
 use Rattle.ak_model.specs.Trace.{Moment, trace}
 use Rattle.ak_model.specs.ProgramTurns.{program_turns}
 use Rattle.ak_model.specs.Forced.{queue_by}
 use Rattle.ak_model.specs.Premises.{MissesFit}
 use Rattle.ak_model.specs.Counted.{saved_count}
-use Rattle.ak_model.specs.Blame.{faults, is_fault, enters_at_one, returned_at, resumes}
+use Rattle.ak_model.specs.Blame.{is_fault, enters_at_one, returned_at, resumes}
 use Rattle.ak_model.specs.Blamed.{newest_refusal, is_guard}
-use Rattle.ak_model.specs.Honours.{entered_since_ask, entered_after, is_finish_now, fetched_by}
+use Rattle.ak_model.specs.Honours.{entered_since_ask, is_finish_now, fetched_by}
 use Rattle.ak_model.specs.MovesBefore.{changed, moves_before_fault}
 use Rattle.ak_model.specs.BlamedMove.{IsAskedFor}
-use Rattle.ak_model.specs.Orderly.{ContextFits, FaultFits, StackFits, refuses_by, is_refused, is_live, IsOrderly}
-use Rattle.ak_model.proofs.Someone.{IsQuiet}
+use Rattle.ak_model.specs.Orderly.{ContextFits, FaultFits, StackFits, is_live, IsOrderly}
+use Rattle.ak_model.proofs.Moved.{Reading, reading}
+use Rattle.ak_model.proofs.OrderlySteps.{some_asked}
+use Rattle.ak_model.proofs.OrderlyMoves.{not_refused}
 use Rattle.ak_model.proofs.Orderly.{trace_is_orderly}
 use Rattle.ak_model.proofs.PresentTrace.{counts_right}
 use Rattle.ak_model.proofs.RunEnds.{Since, probes_now}
 use Rattle.ak_model.proofs.LeftTurns.{stack_probes, has_probing, is_ask, StepFaults, Outcome, Same, Mild, Faults, Breaks}
-use Rattle.ak_model.proofs.Did.{Finished, Did, Quietly, Entered, Resumed, Interrupted as WasInterrupted, Went, Exited}
+use Rattle.ak_model.proofs.Did.{Finished, Holds}
 use Rattle.ak_model.proofs.BlamedTrace.{passed}
 use Rattle.ak_model.proofs.StopsAt.{did_next}
-use Rattle.ak_model.proofs.LastFault.{Unfetched, FaultAt, Kept, mild_at, deep, guard_alone, asked_for, some_asked, not_fetched}
+use Rattle.ak_model.proofs.LastFault.{Unfetched, FaultAt, Kept, mild_at, deep, guard_alone, asked_for, not_fetched}
 
 -- what came back stays, while no turn leaves
 pub since_probing : (start control : Control) → Since start control → is_asked control.phase ≡ true → has_probing control ≡ true → (is_asked start.phase ≡ true) × (has_probing start ≡ true)
@@ -51,33 +53,19 @@ module _ (layout : Layout) (tape : List Event) (moves : List Move) (so_far : Lis
   abbrev here : Moment
   here = trace layout tape moves
 
-  abbrev After : Change → Control → Type 0
-  After c next =
-      Kept layout (trace layout tape (if faults c then moves else moves_before_fault layout tape moves))
-      (if enters_at_one c (saved_count here.past) then is_asked here.control.phase else comes)
-      (if resumes c then (cssa here.control == 1) && is_asked here.control.phase else early)
-      (entered_after c (entered_since_ask here.past))
-      (if enters_at_one c (saved_count here.past) then length here.past + 1 else returned_at here.past) next
+  -- what stands after a move that this is read of
+  abbrev After : Reading → Control → Type 0
+  After change next =
+      Kept layout (trace layout tape (if change.faults then moves else moves_before_fault layout tape moves))
+      (if change.at_one (saved_count here.past) then is_asked here.control.phase else comes)
+      (if change.resumes then (cssa here.control == 1) && is_asked here.control.phase else early)
+      (change.entered (entered_since_ask here.past))
+      (if change.at_one (saved_count here.past) then length here.past + 1 else returned_at here.past) next
 
   abbrev Before : Type 0
   Before = Kept layout (trace layout tape (moves_before_fault layout tape moves)) comes early (entered_since_ask here.past) (returned_at here.past) here.control
 
   module _ (orderly : IsOrderly layout so_far (someone_inside layout here.past) here.control) (counts : saved_count here.past ≡ cssa here.control) (old : Before) where
-    quiet : (c : Change) → IsQuiet layout c → After c here.control
-    quiet Unchanged q = old
-    quiet (Maps p f flags) q = old
-    quiet (Blocks f) q = old
-    quiet Cycles q = old
-    quiet (WritesOut f va i k) q = old
-    quiet (Loads f k p va i blocked) q = old
-    quiet (Removes f) q = old
-    quiet (MakesVa f) q = old
-    quiet (Discards k) q = old
-    quiet (Enters lp v) q = absurd q
-    quiet (Resumes lp) q = absurd q
-    quiet (Exits lp exit) q = absurd q
-    quiet (Interrupts lp) q = absurd q
-
     -- ---- Entering
 
     -- with two contexts saved, no entering comes back
@@ -104,7 +92,7 @@ module _ (layout : Layout) (tape : List Event) (moves : List Move) (so_far : Lis
         let saved : stack_probes here.control.stack ≡ true = rw other at p in
         (old.probing a (or_right (probes_now here.control.now) _ saved)).0
 
-    enter_after : (lp v : ℕ) → After (Enters lp v) (entered here.control v)
+    enter_after : (lp v : ℕ) → After (reading (Enters lp v)) (entered here.control v)
     enter_after lp v = record {
       at = λ live. enters_at (newest_refusal here.control.stack) refl (old.at live);
       probing = λ a p. (comes_by (saved_count here.past == 1) refl a p, refl);
@@ -113,21 +101,15 @@ module _ (layout : Layout) (tape : List Event) (moves : List Move) (so_far : Lis
 
     -- ---- Resuming
 
-    resume_after : (lp : ℕ) (saved : Saved) (rest : List Saved) → is_some here.control.now ≡ false → here.control.pending ≡ false → here.control.stack ≡ saved ∷ rest → After (Resumes lp) (record here.control { stack = rest; now = Some saved.context })
+    resume_after : (lp : ℕ) (saved : Saved) (rest : List Saved) → is_some here.control.now ≡ false → here.control.pending ≡ false → here.control.stack ≡ saved ∷ rest → After (reading (Resumes lp)) (resumed_by here.control (saved ∷ rest))
     resume_after lp saved rest n p e = record {
       at = λ live.
           let whole : FaultAt layout (trace layout tape (moves_before_fault layout tape moves)) (returned_at here.past) here.control.queue (newest_refusal (saved ∷ rest)) = subst (λ s. FaultAt layout (trace layout tape (moves_before_fault layout tape moves)) (returned_at here.past) here.control.queue (newest_refusal s)) e (old.at live) in
-          subst (FaultAt layout (trace layout tape (moves_before_fault layout tape moves)) (returned_at here.past) here.control.queue) (passed saved.reason (newest_refusal rest) (not_refused (refuses_by saved.reason) refl live)) whole;
+          subst (FaultAt layout (trace layout tape (moves_before_fault layout tape moves)) (returned_at here.past) here.control.queue) (passed saved.reason (newest_refusal rest) (not_refused layout so_far (someone_inside layout here.past) here.control saved rest orderly e p n live)) whole;
       probing = λ a h. old.probing a (or_right (probes_now here.control.now) _ (subst (λ s. stack_probes s ≡ true) (sym e) h));
       guard = λ a g. lone a g;
     }
       where
-        not_refused : (b : Bool) → refuses_by saved.reason ≡ b → is_live here.control.phase ≡ true → refuses_by saved.reason ≡ false
-        not_refused false h live = h
-        not_refused true h live =
-            let refused : is_refused here.control.stack ≡ true = ap is_refused e ∙ h in
-            absurd (let x = orderly.pending_if n refused live in cc)
-
         lone : is_asked here.control.phase ≡ true → is_guard (Some saved.context) ≡ true → ((cssa here.control == 1) && is_asked here.control.phase) ≡ true
         lone a g =
             let fits : StackFits layout here.control.phase here.control.queue (saved ∷ rest) = subst (StackFits layout here.control.phase here.control.queue) e orderly.stack in
@@ -138,7 +120,7 @@ module _ (layout : Layout) (tape : List Event) (moves : List Move) (so_far : Lis
 
     -- ---- An interrupt, and a run that did not leave
 
-    interrupt_by : (lp : ℕ) (now : Option Context) → here.control.now ≡ now → After (Interrupts lp) (interrupted_by here.control now)
+    interrupt_by : (lp : ℕ) (now : Option Context) → here.control.now ≡ now → After (reading (Interrupts lp)) (interrupted_by here.control now)
     interrupt_by lp None e = old
     interrupt_by lp (Some context) e = record {
       at = old.at;
@@ -151,7 +133,7 @@ module _ (layout : Layout) (tape : List Event) (moves : List Move) (so_far : Lis
         subst (λ queue. FaultAt layout (trace layout tape (moves_before_fault layout tape moves)) (returned_at here.past) queue (newest_refusal next.stack)) (sym (q ∙ s.queue))
         (subst (FaultAt layout (trace layout tape (moves_before_fault layout tape moves)) (returned_at here.past) here.control.queue) (sym (r ∙ ap newest_refusal s.stack)) (old.at (s.live l)))
 
-    went_after : (next : Control) → Since here.control next → After Unchanged next
+    went_after : (next : Control) → Since here.control next → After (reading Unchanged) next
     went_after next s = record {
       at = λ live. same_at next next s refl refl live;
       probing = λ a p. let start = since_probing here.control next s a p in old.probing start.0 start.1;
@@ -165,7 +147,7 @@ module _ (layout : Layout) (tape : List Event) (moves : List Move) (so_far : Lis
         Kept layout (trace layout tape (if is_fault exit then moves else moves_before_fault layout tape moves)) comes early
         (if is_ask exit then false else entered_since_ask here.past) (returned_at here.past) next
 
-    left_after : (lp : ℕ) (exit : Exit) (next : Control) → Ran exit next → After (if_left exit (Exits lp exit)) next
+    left_after : (lp : ℕ) (exit : Exit) (next : Control) → Ran exit next → After (reading (if_left exit (Exits lp exit))) next
     left_after lp Still next h = h
     left_after lp (Ask d c) next h = h
     left_after lp (Pf base code) next h = h
@@ -232,13 +214,15 @@ module _ (layout : Layout) (tape : List Event) (moves : List Move) (so_far : Lis
 
     -- ---- Any move
 
-    pub did_after : (c : Change) (next : Control) → Did layout here.past here.control c next → After c next
-    did_after c next (Quietly q n) = subst (After c) (sym n) (quiet c q)
-    did_after c next (Entered lp v o f n) = subst (λ x. After x next) (sym f) (subst (After (Enters lp v)) (sym n) (enter_after lp v))
-    did_after c next (Resumed lp saved rest o p s f n) = subst (λ x. After x next) (sym f) (subst (After (Resumes lp)) (sym n) (resume_after lp saved rest o p s))
-    did_after c next (WasInterrupted lp f n) = subst (λ x. After x next) (sym f) (subst (After (Interrupts lp)) (sym n) (interrupt_by lp here.control.now refl))
-    did_after c next (Went f s) = subst (λ x. After x next) (sym f) (went_after next s)
-    did_after c next (Exited lp exit f h) = subst (λ x. After x next) (sym f) (left_after lp exit next (finished_after exit next h))
+    pub cases : Holds layout here.past here.control After
+    cases = record {
+      quiet = old;
+      entered = λ lp v n. enter_after lp v;
+      resumed = resume_after;
+      interrupted = λ lp. interrupt_by lp here.control.now refl;
+      went = went_after;
+      exited = λ lp exit next h. left_after lp exit next (finished_after exit next h);
+    }
 
 -- ---- Whole traces
 
@@ -263,6 +247,6 @@ module _ (layout : Layout) (tape : List Event) where
   pub trace_kept : IsValid layout → MissesFit layout (queue_at_build layout.build layout) tape → (moves : List Move) → KeptAt moves
   trace_kept valid misses [] = record { at = λ live. tt; probing = λ a p. absurd (cc); guard = λ a g. absurd (cc) }
   trace_kept valid misses (m ∷ moves) =
-      did_after layout tape moves (queue_by layout (program_turns layout tape moves)) (came_back moves) (was_early moves)
-      (trace_is_orderly layout valid tape misses moves) (counts_right layout tape moves).saved_is (trace_kept valid misses moves)
-      (changed layout (trace layout tape moves) m) (trace layout tape (m ∷ moves)).control (did_next layout valid tape misses m moves)
+      did_next layout valid tape misses m moves (After layout tape moves (queue_by layout (program_turns layout tape moves)) (came_back moves) (was_early moves))
+      (cases layout tape moves (queue_by layout (program_turns layout tape moves)) (came_back moves) (was_early moves)
+      (trace_is_orderly layout valid tape misses moves) (counts_right layout tape moves).saved_is (trace_kept valid misses moves))

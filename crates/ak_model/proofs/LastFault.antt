@@ -104,15 +104,6 @@ module _ (layout : Layout) where
   asked_for (Trapped x) i l = absurd (omega arith)
   asked_for Dead i l = absurd (omega arith)
 
-  pub some_asked : (phase : Phase) (i : ℕ) → i < length (asked_pages layout phase) → is_asked phase ≡ true
-  some_asked (Asked c) i l = refl
-  some_asked New i l = absurd (omega arith)
-  some_asked Running i l = absurd (omega arith)
-  some_asked Calling i l = absurd (omega arith)
-  some_asked (Ended s) i l = absurd (omega arith)
-  some_asked (Trapped x) i l = absurd (omega arith)
-  some_asked Dead i l = absurd (omega arith)
-
   pub unmapped : (past : History) (c i : ℕ) → i < length (pages_of layout c) → is_mapped layout past (slice_index (pages_of layout c) i) ≡ false → cluster_is_mapped layout past c ≡ false
   unmapped past c i l h =
       false_from_ne_true (cluster_is_mapped layout past c) (λ all. let there = all_at layout (is_mapped layout past) (pages_of layout c) i all l in cc)

@@ -1,6 +1,6 @@
 -- What a turn that leaves does to the refusals to resume, to contexts that come back from an ask, and to the cause of the stop.
 use Rattle.std.proofs.Common.{◌≡◌, inl, inr, ℕ, zero, suc, ◌<◌, ◌≤◌, List, [], ◌∷◌, length, arith, refl, ap, sym, ◌∙◌, subst}
-use Rattle.std.specs.Prelude.{Bool, true, false, not, ◌||◌, slice_index, if◌then◌else◌, Option, Some, None, nat_lt, ◌==◌}
+use Rattle.std.specs.Prelude.{Bool, true, false, ◌||◌, slice_index, if◌then◌else◌, Option, Some, None, nat_lt, ◌==◌}
 use Rattle.std.specs.List.{list_any}
 use Rattle.std.proofs.lemmas.Bool.{ltb-true, ltb-false, eqb-true, eqb-false, or_right, or_parts}
 use Rattle.ak_core.specs.Layout.{Layout}
@@ -16,7 +16,7 @@ use Rattle.ak_model.specs.History.{History}
 use Rattle.ak_model.specs.Walk.{touch_walkable}
 use Rattle.ak_model.specs.Control.{Phase, New, Running, Calling, Asked, Ended, Trapped, Dead, Context, Program, Entry, Probe, Finish, Guard, Leave, Reason, Interrupted, Cleared, Raised, Denied, Missed, Broke, Faulted, Saved, Cause, Broken, Named, Control, cssa, first_cause, is_asked}
 use Rattle.ak_model.specs.Turn.{Turn, Goes, Leaves}
-use Rattle.ak_model.specs.RuntimeStep.{asked_pages, touches, first_fault, step_fault, guard_top, program_at_bottom, shown_fault, nested_cause, die, guarded, guarded_twice, handle, enter, finish, resume_guard, leave_call, effect, unless_fault}
+use Rattle.ak_model.specs.RuntimeStep.{asked_pages, touches, step_fault, guard_top, program_at_bottom, shown_fault, nested_cause, die, guarded, guarded_twice, handle, enter, finish, resume_guard, leave_call, effect, unless_fault}
 use Rattle.ak_model.specs.ProgramStep.{due, leave_program, event_turn}
 use Rattle.ak_model.specs.Turns.{turn_of, turn}
 use Rattle.ak_model.specs.Blame.{is_fault}
@@ -24,6 +24,7 @@ use Rattle.ak_model.specs.Blamed.{newest_refusal, is_guard}
 use Rattle.ak_model.specs.Honours.{is_finish_now, is_past_probes}
 use Rattle.ak_model.specs.StepRows.{guards}
 use Rattle.ak_model.specs.Orderly.{ContextFits, NowFits, FaultFits, SavedFits, StackFits, IsOwnAccess, is_live, IsOrderly, TurnIsOrderly, after_turn}
+use Rattle.ak_model.proofs.Unwalkable.{unwalkable}
 use Rattle.ak_model.proofs.OrderlySteps.{ClustersFit}
 use Rattle.ak_model.proofs.OrderlyTurns.{turn_fits}
 use Rattle.ak_model.proofs.ClusterPages.{asked_low}
@@ -277,18 +278,6 @@ module _ (layout : Layout) (past : History) where
     stuck_stays true t x e = first_stays (Named (Stuck t.page t.kind)) x e
     stuck_stays false t x e = e
 
-    not_walkable : (b : Bool) (x t : Touch) (later : Option Touch) → touch_walkable layout past x ≡ b → (later ≡ Some t → touch_walkable layout past t ≡ false) → (if not b then Some x else later) ≡ Some t → touch_walkable layout past t ≡ false
-    not_walkable true x t later e go h = go h
-    not_walkable false x t later e go h = let same : x ≡ t = cc in subst (λ y. touch_walkable layout past y ≡ false) same e
-
-    first_unwalkable : (all : List Touch) (t : Touch) → first_fault layout past all ≡ Some t → touch_walkable layout past t ≡ false
-    first_unwalkable [] t h = absurd (cc)
-    first_unwalkable (x ∷ all) t h = not_walkable (touch_walkable layout past x) x t (first_fault layout past all) refl (first_unwalkable all t) h
-
-    unwalkable : (walks : Bool) (all : List Touch) (t : Touch) → (if walks then first_fault layout past all else None) ≡ Some t → touch_walkable layout past t ≡ false
-    unwalkable true all t h = first_unwalkable all t h
-    unwalkable false all t h = absurd (cc)
-
     pushed_probes : (context : Context) (t : Touch) → control.now ≡ Some context → stack_probes (record { context = context; reason = Faulted t } ∷ control.stack) ≡ true → has_probing control ≡ true
     pushed_probes context t n h = subst (λ now. (probes_now now || stack_probes control.stack) ≡ true) (sym n) h
 
@@ -309,9 +298,9 @@ module _ (layout : Layout) (past : History) where
     unless_left context None n h e fits = effect_left context n h
     unless_left context (Some t) n h e fits = record {
       out = refl;
-      refusal = λ l. Faults refl (record { context = context; touch = t; now = n; lost = unwalkable (steps_walk layout.build) (touches layout control context) t e; stack = refl; phase = refl });
+      refusal = λ l. Faults refl (record { context = context; touch = t; now = n; lost = unwalkable layout past (steps_walk layout.build) (touches layout control context) t e; stack = refl; phase = refl });
       probing = λ a p. (refl, pushed_probes context t n p, refl, pushed_past context t n);
-      cause = stuck_by (cssa control == 2) context t refl h fits.stack.0.reason (unwalkable (steps_walk layout.build) (touches layout control context) t e);
+      cause = stuck_by (cssa control == 2) context t refl h fits.stack.0.reason (unwalkable layout past (steps_walk layout.build) (touches layout control context) t e);
       stays = stuck_stays (cssa control == 2) t;
     }
 

@@ -39,7 +39,12 @@ pub mod MoreRows
 pub mod Clusters
 pub mod OrderlySteps
 pub mod OrderlyTurns
+pub mod Tests
+pub mod Stacks
+pub mod Unwalkable
+pub mod Changes
 pub mod Someone
+pub mod Moved
 pub mod OrderlyMoves
 pub mod OrderlyTrace
 pub mod ValidClusters

@@ -10,14 +10,11 @@ use Rattle.ak_core.specs.declared.instruction.Decoded.TheVariants.{Whole, NeedMo
 use Rattle.ak_model.specs.Pages.{pages}
 use Rattle.ak_model.specs.Instructions.{Plan, Traps, Computes, Reads, Writes, CallsOut, plan}
 use Rattle.ak_model.specs.Flat.{Flat, Line, page_at, is_program, operand_touches, if_operand, carry_out, straddling, in_first_page, line}
+use Rattle.ak_model.proofs.Tests.{either_way}
 
 -- a line with at most so many accesses
 AtMost : ℕ → Line → Type 0
 AtMost n l = length l.touches ≤ n
-
-either_most : (n : ℕ) (b : Bool) (l m : Line) → AtMost n l → AtMost n m → AtMost n (if b then l else m)
-either_most n true l m h k = h
-either_most n false l m h k = k
 
 either_few : (n : ℕ) (b : Bool) (xs ys : List Touch) → length xs ≤ n → length ys ≤ n → length (if b then xs else ys) ≤ n
 either_few n true xs ys h k = h
@@ -29,7 +26,7 @@ operand_few layout address count kind = either_few 2 (page_at layout address == 
 operand_most : (layout : Layout) (touches : List Touch) (address count : ℕ) (kind : Kind) (flat : Flat) → AtMost (length touches + 2) (if_operand layout touches address count kind flat)
 unfolding AtMost
 operand_most layout touches address count kind flat =
-    either_most (length touches + 2) (is_program layout address count) _ _
+    either_way (AtMost (length touches + 2)) (is_program layout address count) _ _
     (let few = operand_few layout address count kind in omega (arith, length-append touches (operand_touches layout address count kind)))
     (omega arith)
 
@@ -53,9 +50,9 @@ first_most layout flat p (Whole instr size) =
     let three = carry_most layout flat (touch p Exec ∷ []) (plan instr (record flat.regs { rip = flat.regs.rip + size })) in omega arith
 first_most layout flat p Illegal = omega arith
 first_most layout flat p NeedMore =
-    either_most 4 (nat_lt (suc p) (pages layout)) _ _ (straddling_most layout flat p (suc p) _) (omega arith)
+    either_way (AtMost 4) (nat_lt (suc p) (pages layout)) _ _ (straddling_most layout flat p (suc p) _) (omega arith)
 
 pub few_touches : (layout : Layout) (flat : Flat) → length (line layout flat).touches ≤ 4
 unfolding AtMost
 few_touches layout flat =
-    either_most 4 (is_program layout flat.regs.rip 1) _ _ (first_most layout flat _ _) (omega arith)
+    either_way (AtMost 4) (is_program layout flat.regs.rip 1) _ _ (first_most layout flat _ _) (omega arith)

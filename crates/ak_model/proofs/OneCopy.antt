@@ -6,18 +6,16 @@ use Rattle.std.proofs.lemmas.Bool.{eqb-true, ltb-true, and_parts, not-true, not-
 use Rattle.std.proofs.lemmas.Bool.Decides.{nat_tests}
 use Rattle.ak_core.specs.Layout.{Layout}
 use Rattle.ak_core.specs.declared.event.Event.{Event}
-use Rattle.ak_core.specs.declared.moves.Exit.{Exit}
-use Rattle.ak_core.specs.declared.moves.Exit.TheVariants.{Still}
 use Rattle.ak_core.specs.declared.page.Handle.{Handle}
 use Rattle.ak_core.specs.declared.moves.Move.{Move}
-use Rattle.ak_core.specs.declared.moves.Move.TheVariants.{SetPte, ReadPte, Eblock, Etrack, Ewb, Eldu, Eldb, Eremove, Epa, Discard, Eenter, Eresume, Run, Interrupt}
+use Rattle.ak_core.specs.declared.moves.Move.TheVariants.{ReadPte, Ewb, Eldu, Eldb, Epa, Discard, Run}
 use Rattle.ak_core.specs.declared.moves.Answer.{Answer}
-use Rattle.ak_core.specs.declared.moves.Answer.TheVariants.{Ok, OkHandle, Exit as ExitBy, NotEpc, IsSecs, InUse, NotBlocked, NotTracked, BadVa, SlotOccupied, MacFail, NoHandle}
+use Rattle.ak_core.specs.declared.moves.Answer.TheVariants.{Ok, OkHandle, NotEpc, IsSecs, InUse, NotBlocked, NotTracked, BadVa, SlotOccupied, MacFail, NoHandle}
 use Rattle.ak_core.specs.declared.build.Build.{Build}
 use Rattle.ak_core.specs.declared.build.Build.TheVariants.{Resident, Sealed as SealedBuild}
 use Rattle.ak_model.specs.Build.{later_frame, program_place, slot_at_build, given_at_build, page_of_at_build}
 use Rattle.ak_model.specs.Pages.{all_pages, pages}
-use Rattle.ak_model.specs.History.{History, Change, Unchanged, Maps, Blocks, Cycles, WritesOut, Loads, Removes, MakesVa, Discards, Enters, Resumes, Exits, Interrupts, change, if_ok, if_handle, if_exit, if_left}
+use Rattle.ak_model.specs.History.{History, Change, WritesOut, Loads, Removes, MakesVa, Discards, Exits, change}
 use Rattle.ak_model.specs.Holdings.{holds, InFrame, Held, FreeFrame, SecsFrame, VaFrame, PageFrame, is_free, Sealed, Gone}
 use Rattle.ak_model.specs.Frames.{held, held_after, blocked_at}
 use Rattle.ak_model.specs.Handles.{given, given_after, page_of, page_of_after, page_after, discarded, discarded_after, live, slot, slot_after, place, place_after}
@@ -25,6 +23,8 @@ use Rattle.ak_model.specs.Tracking.{tracked}
 use Rattle.ak_model.specs.Control.{Control}
 use Rattle.ak_model.specs.Answers.{answer, if_frame, if_page, is_slot, write_out_answer, mac_answer, load_answer, va_answer}
 use Rattle.ak_model.specs.Trace.{trace}
+use Rattle.ak_model.proofs.Someone.{other}
+use Rattle.ak_model.proofs.Changes.{ok_holds, handle_holds, exit_holds}
 use Rattle.ak_model.proofs.Copies.{Agrees, loads, writes_out, removes, frees, makes_va, discards}
 
 abbrev pub OneCopy : Layout → History → Type 0
@@ -82,10 +82,6 @@ module _ (layout : Layout) where
   Fair past (MakesVa f) = held layout past f ≡ FreeFrame
   Fair past (Discards k) = k < given layout past
   Fair past _ = Unit {0}
-
-  other : (b : Bool) (x y z : Answer) → (x ≡ z → ⊥) → (if b then x else y) ≡ z → (b ≡ false) × (y ≡ z)
-  other true x y z ne h = absurd (ne h)
-  other false x y z ne h = (refl, h)
 
   free_if : (frame : Held) → is_free frame ≡ true → frame ≡ FreeFrame
   free_if FreeFrame h = refl
@@ -152,37 +148,15 @@ module _ (layout : Layout) where
       alive true e h = (live_kept past k e).0
       alive false e h = absurd (cc)
 
-  ok_fair : (past : History) (a : Answer) (c : Change) → (a ≡ Ok → Fair past c) → Fair past (if_ok a c)
-  ok_fair past Ok c h = h refl
-  ok_fair past _ c h = tt
-
-  handle_fair : (past : History) (a : Answer) (c : ℕ → Change) → ((k : Handle) → a ≡ OkHandle k → Fair past (c k.0)) → Fair past (if_handle a c)
-  handle_fair past (OkHandle k) c h = h k refl
-  handle_fair past _ c h = tt
-
-  left_fair : (past : History) (exit : Exit) (lp : ℕ) → Fair past (if_left exit (Exits lp exit))
-  left_fair past Still lp = tt
-  left_fair past _ lp = tt
-
-  exit_fair : (past : History) (a : Answer) (lp : ℕ) → Fair past (if_exit a (λ exit. Exits lp exit))
-  exit_fair past (ExitBy exit) lp = left_fair past exit lp
-  exit_fair past _ lp = tt
-
   fair : (past : History) (control : Control) (m : Move) → Fair past (change m (answer layout past control m))
-  fair past control (SetPte p f flags) = ok_fair past (answer layout past control (SetPte p f flags)) _ (λ h. tt)
   fair past control (ReadPte p) = tt
-  fair past control (Eblock f) = ok_fair past (answer layout past control (Eblock f)) _ (λ h. tt)
-  fair past control Etrack = ok_fair past (answer layout past control Etrack) _ (λ h. tt)
-  fair past control (Ewb f va i) = handle_fair past (answer layout past control (Ewb f va i)) _ (out_fair past f.0 va.0 i)
-  fair past control (Eldu f k p va i) = ok_fair past (answer layout past control (Eldu f k p va i)) _ (load_fair past f.0 k.0 p.0 va.0 i false)
-  fair past control (Eldb f k p va i) = ok_fair past (answer layout past control (Eldb f k p va i)) _ (load_fair past f.0 k.0 p.0 va.0 i true)
-  fair past control (Eremove f) = ok_fair past (answer layout past control (Eremove f)) _ (λ h. tt)
-  fair past control (Epa f) = ok_fair past (answer layout past control (Epa f)) _ (va_fair past f.0)
-  fair past control (Discard k) = ok_fair past (answer layout past control (Discard k)) _ (discard_fair past k.0)
-  fair past control (Eenter lp v) = ok_fair past (answer layout past control (Eenter lp v)) _ (λ h. tt)
-  fair past control (Eresume lp) = ok_fair past (answer layout past control (Eresume lp)) _ (λ h. tt)
-  fair past control (Run lp n) = exit_fair past (answer layout past control (Run lp n)) lp.0
-  fair past control (Interrupt lp) = ok_fair past (answer layout past control (Interrupt lp)) _ (λ h. tt)
+  fair past control (Ewb f va i) = handle_holds (Fair past) tt (answer layout past control (Ewb f va i)) _ (out_fair past f.0 va.0 i)
+  fair past control (Eldu f k p va i) = ok_holds (Fair past) tt (answer layout past control (Eldu f k p va i)) _ (load_fair past f.0 k.0 p.0 va.0 i false)
+  fair past control (Eldb f k p va i) = ok_holds (Fair past) tt (answer layout past control (Eldb f k p va i)) _ (load_fair past f.0 k.0 p.0 va.0 i true)
+  fair past control (Epa f) = ok_holds (Fair past) tt (answer layout past control (Epa f)) _ (va_fair past f.0)
+  fair past control (Discard k) = ok_holds (Fair past) tt (answer layout past control (Discard k)) _ (discard_fair past k.0)
+  fair past control (Run lp n) = exit_holds (Fair past) tt (answer layout past control (Run lp n)) (λ exit. Exits lp.0 exit) (λ exit. tt)
+  fair past control m = ok_holds (Fair past) tt (answer layout past control m) _ (λ h. tt)
 
   -- ---- After a fair change
 
@@ -207,14 +181,7 @@ module _ (layout : Layout) where
   one_more past old (Removes f) h = after_removal past old f (held layout past f) refl
   one_more past old (MakesVa f) h = makes_va _ _ _ _ _ _ old f h
   one_more past old (Discards k) h = discards _ _ _ _ _ _ old k h
-  one_more past old Unchanged h = old
-  one_more past old (Maps p f flags) h = old
-  one_more past old (Blocks f) h = old
-  one_more past old Cycles h = old
-  one_more past old (Enters lp v) h = old
-  one_more past old (Resumes lp) h = old
-  one_more past old (Exits lp exit) h = old
-  one_more past old (Interrupts lp) h = old
+  one_more past old _ h = old
 
   pub one_copy : (tape : List Event) (moves : List Move) → OneCopy layout (trace layout tape moves).past
   one_copy tape [] = built_one

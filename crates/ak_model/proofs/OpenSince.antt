@@ -9,10 +9,10 @@ use Rattle.ak_core.specs.declared.moves.Exit.{Exit}
 use Rattle.ak_core.specs.declared.moves.Move.{Move}
 use Rattle.ak_model.specs.Pages.{pages_of}
 use Rattle.ak_model.specs.Build.{queue_at_build}
-use Rattle.ak_model.specs.History.{History, Change}
+use Rattle.ak_model.specs.History.{History}
 use Rattle.ak_model.specs.Inside.{someone_inside}
 use Rattle.ak_model.specs.Control.{Asked, Context, Program, Entry, Probe, Finish, Guard, Leave, Reason, Interrupted, Cleared, Raised, Denied, Missed, Broke, Faulted, Saved, Control, cssa, is_asked}
-use Rattle.ak_model.specs.Entering.{entered, interrupted_by}
+use Rattle.ak_model.specs.Entering.{entered, resumed_by, interrupted_by}
 use Rattle.ak_model.specs.Trace.{Moment, trace}
 use Rattle.ak_model.specs.ProgramTurns.{program_turns}
 use Rattle.ak_model.specs.Forced.{queue_by}
@@ -21,12 +21,14 @@ use Rattle.ak_model.specs.Counted.{saved_count}
 use Rattle.ak_model.specs.Blame.{enters_at_one, returned_at}
 use Rattle.ak_model.specs.Honours.{entered_since_ask, is_finish_now, is_past_probes, probes_done}
 use Rattle.ak_model.specs.MovesBefore.{changed}
-use Rattle.ak_model.specs.Orderly.{refuses_by, is_refused, is_live, IsOrderly}
+use Rattle.ak_model.specs.Orderly.{refuses_by, is_live, IsOrderly}
 use Rattle.ak_model.proofs.Orderly.{trace_is_orderly}
 use Rattle.ak_model.proofs.PresentTrace.{counts_right}
 use Rattle.ak_model.proofs.RunEnds.{Since, probes_now}
 use Rattle.ak_model.proofs.LeftTurns.{stack_probes, stack_past, has_probing}
-use Rattle.ak_model.proofs.Did.{Finished, Did, Quietly, Entered, Resumed, Interrupted as WasInterrupted, Went, Exited}
+use Rattle.ak_model.proofs.Moved.{Reading}
+use Rattle.ak_model.proofs.OrderlyMoves.{not_refused}
+use Rattle.ak_model.proofs.Did.{Finished, Holds}
 use Rattle.ak_model.proofs.StopsAt.{did_next}
 use Rattle.ak_model.proofs.KeptTrace.{since_probing, trace_kept}
 
@@ -69,15 +71,9 @@ module _ (layout : Layout) where
     same_past Guard reason r f = refl
     same_past (Leave b a) reason r f = refl
 
-    not_refused : (saved : Saved) (rest : List Saved) (b : Bool) → refuses_by saved.reason ≡ b → is_some control.now ≡ false → control.pending ≡ false → control.stack ≡ saved ∷ rest → is_live control.phase ≡ true → refuses_by saved.reason ≡ false
-    not_refused saved rest false h n p e live = h
-    not_refused saved rest true h n p e live =
-        let refused : is_refused control.stack ≡ true = ap is_refused e ∙ h in
-        absurd (let x = orderly.pending_if n refused live in cc)
-
-    resumed_open : (saved : Saved) (rest : List Saved) → is_some control.now ≡ false → control.pending ≡ false → control.stack ≡ saved ∷ rest → Open c (record control { stack = rest; now = Some saved.context }) → Open c control
+    resumed_open : (saved : Saved) (rest : List Saved) → is_some control.now ≡ false → control.pending ≡ false → control.stack ≡ saved ∷ rest → Open c (resumed_by control (saved ∷ rest)) → Open c control
     resumed_open saved rest n p e h =
-        let reason = not_refused saved rest (refuses_by saved.reason) refl n p e (ap is_live h.asked) in
+        let reason = not_refused layout so_far (someone_inside layout past) control saved rest orderly e p n (ap is_live h.asked) in
         let here : is_past_probes last saved.context saved.reason ≡ false = same_past saved.context saved.reason reason h.unfinished in
         record {
           asked = h.asked;
@@ -124,14 +120,19 @@ module _ (layout : Layout) where
         let not_past = left.3 last h.unpast in
         went_open f.before f.since (record { asked = sym left.0 ∙ h.asked; probing = left.1; unfinished = not_past.0; unpast = not_past.1 })
 
-    open_before : (x : Change) (next : Control) → Did layout past control x next → enters_at_one x (saved_count past) ≡ false → Open c next → Open c control
-    open_before x next (Quietly q n) one h = subst (Open c) n h
-    open_before x next (Entered lp v o f n) one h =
-        entered_open v o (subst (λ y. enters_at_one y (saved_count past) ≡ false) f one) (subst (Open c) n h)
-    open_before x next (Resumed lp saved rest o p s f n) one h = resumed_open saved rest o p s (subst (Open c) n h)
-    open_before x next (WasInterrupted lp f n) one h = interrupted_open control.now refl (subst (Open c) n h)
-    open_before x next (Went f s) one h = went_open next s h
-    open_before x next (Exited lp exit f k) one h = exited_open exit next k h
+    -- before a move that does not come back
+    abbrev Before : Reading → Control → Type 0
+    Before change next = change.at_one (saved_count past) ≡ false → Open c next → Open c control
+
+    open_before : Holds layout past control Before
+    open_before = record {
+      quiet = λ one h. h;
+      entered = λ lp v n. entered_open v n;
+      resumed = λ lp saved rest n p e one h. resumed_open saved rest n p e h;
+      interrupted = λ lp one h. interrupted_open control.now refl h;
+      went = λ next s one h. went_open next s h;
+      exited = λ lp exit next f one h. exited_open exit next f h;
+    }
 
 -- ---- Whole traces
 
@@ -155,8 +156,10 @@ module _ (layout : Layout) (valid : IsValid layout) (tape : List Event) (misses 
   older_open : (c d : ℕ) (m : Move) (moves : List Move) (one : Bool) → enters_at_one (changed layout (At moves) m) (saved_count (At moves).past) ≡ one → (if one then length (At moves).past + 1 else returned_at (At moves).past) ≤ length (drop d (At moves).past) → Open layout c (At (m ∷ moves)).control → (Open layout c (At moves).control → returned_at (At moves).past ≤ length (drop d (At moves).past) → IsOpen c (At (drop d moves))) → IsOpen c (At (drop d moves))
   older_open c d m moves true e l h go = absurd (let short = length-drop d (At moves).past in omega arith)
   older_open c d m moves false e l h go =
-      go (open_before layout c (queue_by layout (program_turns layout tape moves)) (At moves).past (At moves).control (trace_is_orderly layout valid tape misses moves) (counts_right layout tape moves).saved_is
-      (changed layout (At moves) m) (At (m ∷ moves)).control (did_next layout valid tape misses m moves) e h) l
+      let so_far : List ℕ = queue_by layout (program_turns layout tape moves) in
+      let orderly = trace_is_orderly layout valid tape misses moves in
+      let counts = (counts_right layout tape moves).saved_is in
+      go (did_next layout valid tape misses m moves (Before layout c so_far (At moves).past (At moves).control orderly counts) (open_before layout c so_far (At moves).past (At moves).control orderly counts) e h) l
 
   -- it is so at each moment since the last entering at CSSA 1
   pub open_since : (c : ℕ) (moves : List Move) (d : ℕ) → Open layout c (At moves).control → returned_at (At moves).past ≤ length (drop d (At moves).past) → IsOpen c (At (drop d moves))

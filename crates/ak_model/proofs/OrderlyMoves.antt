@@ -1,18 +1,16 @@
 -- Entering, resuming and an interrupt keep the laws of the control state.
-use Rattle.std.proofs.Common.{◌≡◌, ℕ, ◌<◌, ◌≤◌, List, [], ◌∷◌, length, arith, refl, ap, sym, ◌∙◌, subst}
+use Rattle.std.proofs.Common.{◌≡◌, ℕ, ◌<◌, ◌≤◌, List, [], ◌∷◌, length, arith, refl, ap, ◌∙◌, subst}
 use Rattle.std.specs.Prelude.{Bool, true, false, Option, Some, None, is_some, ◌==◌}
 use Rattle.std.proofs.lemmas.Bool.{eqb-false}
 use Rattle.ak_core.specs.Layout.{Layout}
-use Rattle.ak_core.specs.declared.moves.Answer.{Answer}
-use Rattle.ak_core.specs.declared.moves.Answer.TheVariants.{Ok, Gp, Pending}
-use Rattle.ak_model.specs.History.{History, Change, Enters, Resumes, Interrupts, if_ok}
+use Rattle.ak_model.specs.History.{History, Enters, Resumes, Interrupts}
 use Rattle.ak_model.specs.Inside.{someone_inside}
 use Rattle.ak_model.specs.Control.{Phase, New, Running, Calling, Asked, Ended, Trapped, Dead, Context, Program, Entry, Probe, Finish, Guard, Leave, Reason, Interrupted, Cleared, Raised, Denied, Missed, Broke, Faulted, Saved, Control, cssa}
-use Rattle.ak_model.specs.Answers.{enter_answer, resume_answer}
-use Rattle.ak_model.specs.Entering.{entered, resumed_by, interrupted_by, on_ok}
+use Rattle.ak_model.specs.Entering.{entered, resumed_by, interrupted_by}
 use Rattle.ak_model.specs.StepRows.{opens}
 use Rattle.ak_model.specs.Orderly.{ContextFits, NowFits, StackFits, refuses_by, is_refused, miss_of, after_miss_if, is_live, ServedBy, IsOrderly}
-use Rattle.ak_model.proofs.Someone.{other, someone_after, entered_someone, resumed_someone, outside_ok, IsQuiet, quiet_someone}
+use Rattle.ak_model.proofs.Someone.{entered_someone, resumed_someone}
+use Rattle.ak_model.proofs.Moved.{Reading, reading, someone_then}
 use Rattle.ak_model.proofs.OrderlyTurns.{pushed_served}
 
 module _ (layout : Layout) (so_far : List ℕ) where
@@ -33,11 +31,8 @@ module _ (layout : Layout) (so_far : List ℕ) where
 
   -- ---- A move
 
-  abbrev pub AfterChange : History → Change → Control → Type 0
-  AfterChange past c control = IsOrderly layout so_far (someone_after layout past c) control
-
-  pub quiet : (past : History) (c : Change) (control : Control) → IsQuiet layout c → IsOrderly layout so_far (someone_inside layout past) control → AfterChange past c control
-  quiet past c control q old = subst (λ b. IsOrderly layout so_far b control) (sym (quiet_someone layout past c q)) old
+  abbrev pub AfterChange : History → Reading → Control → Type 0
+  AfterChange past change control = IsOrderly layout so_far (someone_then layout past change) control
 
   -- nobody is inside, so there is no context
   pub none_now : (someone : Bool) (control : Control) → IsOrderly layout so_far someone control → someone ≡ false → is_some control.now ≡ false
@@ -46,6 +41,16 @@ module _ (layout : Layout) (so_far : List ℕ) where
       by_now : (b : Bool) → is_some control.now ≡ b → is_some control.now ≡ false
       by_now false h = h
       by_now true h = absurd (let x = old.inside h in cc)
+
+  -- what is resumed does not refuse to be, while the program may go on
+  pub not_refused : (someone : Bool) (control : Control) (saved : Saved) (older : List Saved) → IsOrderly layout so_far someone control → control.stack ≡ saved ∷ older → control.pending ≡ false → is_some control.now ≡ false → is_live control.phase ≡ true → refuses_by saved.reason ≡ false
+  not_refused someone control saved older old e free none live = by_reason (refuses_by saved.reason) refl
+    where
+      by_reason : (b : Bool) → refuses_by saved.reason ≡ b → refuses_by saved.reason ≡ false
+      by_reason false h = h
+      by_reason true h =
+          let refused : is_refused control.stack ≡ true = ap is_refused e ∙ h in
+          absurd (let p = old.pending_if none refused live in cc)
 
   idle : (phase : Phase) (stack : List Saved) (now : Option Context) → NowFits layout phase stack now → is_some now ≡ false → length stack ≡ 0 → opens phase ≡ true
   idle phase stack None h n = h
@@ -64,17 +69,15 @@ module _ (layout : Layout) (so_far : List ℕ) where
   three phase queue [] h = omega arith
   three phase queue (saved ∷ older) h = let l = context_low phase (length older) saved.context h.0.context in omega arith
 
-  pub enter_fits : (past : History) (control : Control) (lp v : ℕ) (a : Answer) → a ≡ enter_answer layout past control lp → IsOrderly layout so_far (someone_inside layout past) control → AfterChange past (if_ok a (Enters lp v)) (on_ok a control (entered control v))
-  enter_fits past control lp v Ok e old =
-      let o = outside_ok layout past lp _ (sym e) in
-      let g = other (cssa control == 3) Gp _ Ok (λ x. cc) o.2 in
+  pub enter_fits : (past : History) (control : Control) (lp v : ℕ) → lp < layout.lps → someone_inside layout past ≡ false → (cssa control == 3) ≡ false → IsOrderly layout so_far (someone_inside layout past) control → AfterChange past (reading (Enters lp v)) (entered control v)
+  enter_fits past control lp v low out full old =
       let few = three control.phase control.queue control.stack old.stack in
-      let not_three = eqb-false (cssa control) 3 g.0 in
-      let none = none_now (someone_inside layout past) control old o.1 in
+      let not_three = eqb-false (cssa control) 3 full in
+      let none = none_now (someone_inside layout past) control old out in
       record {
         stack = old.stack;
         now = (refl, omega arith, idle control.phase control.stack control.now old.now none);
-        inside = λ h. entered_someone layout past lp v o.0;
+        inside = λ h. entered_someone layout past lp v low;
         phase = old.phase;
         queue = old.queue;
         served = old.served;
@@ -83,7 +86,6 @@ module _ (layout : Layout) (so_far : List ℕ) where
         pending_if = λ n r l. absurd (cc);
         stuck = λ l h. absurd (cc);
       }
-  enter_fits past control lp v _ e old = old
 
   -- ---- Resuming
 
@@ -106,9 +108,9 @@ module _ (layout : Layout) (so_far : List ℕ) where
   popped_served (Trapped v) queue saved older n h = h
   popped_served Dead queue saved older n h = h
 
-  resume_by : (past : History) (control : Control) (lp : ℕ) (stack : List Saved) → control.stack ≡ stack → lp < layout.lps → control.pending ≡ false → is_some control.now ≡ false → (length stack ≡ 0 → ⊥) → IsOrderly layout so_far (someone_inside layout past) control → AfterChange past (Resumes lp) (resumed_by control stack)
-  resume_by past control lp [] e low free none some old = absurd (some refl)
-  resume_by past control lp (saved ∷ older) e low free none some old =
+  pub resume_fits : (past : History) (control : Control) (lp : ℕ) (saved : Saved) (older : List Saved) → lp < layout.lps → someone_inside layout past ≡ false → control.pending ≡ false → control.stack ≡ saved ∷ older → IsOrderly layout so_far (someone_inside layout past) control → AfterChange past (reading (Resumes lp)) (resumed_by control (saved ∷ older))
+  resume_fits past control lp saved older low out free e old =
+      let none = none_now (someone_inside layout past) control old out in
       let fits : StackFits layout control.phase control.queue (saved ∷ older) = subst (StackFits layout control.phase control.queue) e old.stack in
       let served : ServedBy layout so_far control.phase control.queue (saved ∷ older) = subst (λ s. ServedBy layout so_far control.phase control.queue s) e old.served in
       record {
@@ -117,30 +119,16 @@ module _ (layout : Layout) (so_far : List ℕ) where
         inside = λ h. resumed_someone layout past lp low;
         phase = old.phase;
         queue = old.queue;
-        served = popped_served control.phase control.queue saved older (λ live. not_refused (refuses_by saved.reason) refl live) served;
+        served = popped_served control.phase control.queue saved older (not_refused (someone_inside layout past) control saved older old e free none) served;
         tape = old.tape;
         pending_only = λ h. absurd (cc);
         pending_if = λ n r l. absurd (cc);
         stuck = λ l h. absurd (cc);
       }
-    where
-      not_refused : (b : Bool) → refuses_by saved.reason ≡ b → is_live control.phase ≡ true → refuses_by saved.reason ≡ false
-      not_refused false h live = h
-      not_refused true h live =
-          let refused : is_refused control.stack ≡ true = ap is_refused e ∙ h in
-          absurd (let p = old.pending_if none refused live in cc)
-
-  pub resume_fits : (past : History) (control : Control) (lp : ℕ) (a : Answer) → a ≡ resume_answer layout past control lp → IsOrderly layout so_far (someone_inside layout past) control → AfterChange past (if_ok a (Resumes lp)) (on_ok a control (resumed_by control control.stack))
-  resume_fits past control lp Ok e old =
-      let o = outside_ok layout past lp _ (sym e) in
-      let g = other (cssa control == 0) Gp _ Ok (λ x. cc) o.2 in
-      let p = other control.pending Pending _ Ok (λ x. cc) g.1 in
-      resume_by past control lp control.stack refl o.0 p.0 (none_now (someone_inside layout past) control old o.1) (eqb-false (cssa control) 0 g.0) old
-  resume_fits past control lp _ e old = old
 
   -- ---- Interrupts
 
-  interrupt_by : (past : History) (control : Control) (lp : ℕ) (now : Option Context) → control.now ≡ now → NowFits layout control.phase control.stack now → IsOrderly layout so_far (someone_inside layout past) control → AfterChange past (Interrupts lp) (interrupted_by control now)
+  interrupt_by : (past : History) (control : Control) (lp : ℕ) (now : Option Context) → control.now ≡ now → NowFits layout control.phase control.stack now → IsOrderly layout so_far (someone_inside layout past) control → AfterChange past (reading (Interrupts lp)) (interrupted_by control now)
   interrupt_by past control lp None n h old = record {
     stack = old.stack;
     now = old.now;
@@ -169,6 +157,5 @@ module _ (layout : Layout) (so_far : List ℕ) where
       free : control.pending ≡ true → ⊥
       free e = let x : is_some control.now ≡ true = ap is_some n in let y = (old.pending_only e).0 in cc
 
-  pub interrupt_fits : (past : History) (control : Control) (lp : ℕ) (a : Answer) → IsOrderly layout so_far (someone_inside layout past) control → AfterChange past (if_ok a (Interrupts lp)) (on_ok a control (interrupted_by control control.now))
-  interrupt_fits past control lp Ok old = interrupt_by past control lp control.now refl old.now old
-  interrupt_fits past control lp _ old = old
+  pub interrupt_fits : (past : History) (control : Control) (lp : ℕ) → IsOrderly layout so_far (someone_inside layout past) control → AfterChange past (reading (Interrupts lp)) (interrupted_by control control.now)
+  interrupt_fits past control lp old = interrupt_by past control lp control.now refl old.now old

@@ -11,15 +11,21 @@ use Rattle.ak_model.specs.Control.{Phase, New, Running, Calling, Asked, Ended, T
 use Rattle.ak_model.specs.RuntimeStep.{save, guard, guard_top, guarded_twice, program_at_bottom, asked_pages, fault, stuck_cause, nested_cause, own_fault, handle, trap, ask, enter, next_probe, finish, resume_guard, leave_call, effect}
 use Rattle.ak_model.specs.StepRows.{opens, guards}
 use Rattle.ak_model.specs.Orderly.{ContextFits, SavedFits, StackFits, is_refused, is_live, QueueFits, PhaseFits, ServedBy, IsOrderly, TurnIsOrderly}
+use Rattle.ak_model.proofs.Stacks.{top_length}
 use Rattle.ak_model.proofs.Clusters.{out-drop, dropped_fits, appended_fits}
 
 pub empty_if : {A : Type 0} (xs : List A) → length xs ≡ 0 → xs ≡ []
 empty_if [] h = refl
 empty_if (x ∷ xs) h = absurd (omega arith)
 
-first_is_some : (earlier : Option Cause) (cause : Cause) → is_some (first_cause earlier cause) ≡ true
+pub first_is_some : (earlier : Option Cause) (cause : Cause) → is_some (first_cause earlier cause) ≡ true
 first_is_some None cause = refl
 first_is_some (Some earlier) cause = refl
+
+-- only while a cluster is asked for are there pages that are asked for
+pub some_asked : (layout : Layout) (phase : Phase) (i : ℕ) → i < length (asked_pages layout phase) → is_asked phase ≡ true
+some_asked layout (Asked c) i h = refl
+some_asked layout _ i h = absurd (omega arith)
 
 -- each cluster has a page, and fits the budget
 pub record ClustersFit (layout : Layout) : Type 0 where
@@ -115,10 +121,6 @@ module _ (layout : Layout) (fit : ClustersFit layout) (so_far : List ℕ) (contr
   top_not_refused [] h = absurd (cc)
   top_not_refused (saved ∷ older) h = absurd (cc)
 
-  top_length : (stack : List Saved) → length (guard_top stack) ≡ length stack
-  top_length [] = refl
-  top_length (saved ∷ older) = refl
-
   ask_fits : (c : ℕ) → length control.stack ≡ 1 → c < layout.clusters → is_in control.queue c ≡ false → ServedBy layout so_far (Asked c) (drop (drops layout control.queue c) control.queue) (guard_top control.stack) → TurnIsOrderly layout so_far (ask layout control c)
   ask_fits c one known out t =
       let d = drops layout control.queue c in
@@ -197,17 +199,8 @@ module _ (layout : Layout) (fit : ClustersFit layout) (so_far : List ℕ) (contr
 
   -- ---- Probes
 
-  some_asked : (phase : Phase) (i : ℕ) → i < length (asked_pages layout phase) → is_asked phase ≡ true
-  some_asked (Asked c) i h = refl
-  some_asked New i h = absurd (omega arith)
-  some_asked Running i h = absurd (omega arith)
-  some_asked Calling i h = absurd (omega arith)
-  some_asked (Ended s) i h = absurd (omega arith)
-  some_asked (Trapped x) i h = absurd (omega arith)
-  some_asked Dead i h = absurd (omega arith)
-
   probe_by : (i : ℕ) (last : Bool) → (suc i == length (asked_pages layout control.phase)) ≡ last → ContextFits layout control.phase (length control.stack) (Probe i) → IsOrderly layout so_far true (record control { now = if last then Some Finish else Some (Probe (suc i)) })
-  probe_by i true e h = goes_to Finish (h.0, some_asked control.phase i h.1)
+  probe_by i true e h = goes_to Finish (h.0, some_asked layout control.phase i h.1)
   probe_by i false e h =
       let differ = eqb-false (suc i) (length (asked_pages layout control.phase)) e in
       let small : i < length (asked_pages layout control.phase) = h.1 in

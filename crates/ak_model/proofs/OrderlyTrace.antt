@@ -1,6 +1,6 @@
 -- Each moment of a trace keeps the laws of the control state.
 use Rattle.std.proofs.Common.{◌≡◌, ◌⊎◌, inl, inr, ℕ, zero, suc, List, [], ◌∷◌, ◌++◌, append_assoc, map, reverse, refl, ap, sym, ◌∙◌, subst}
-use Rattle.std.specs.Prelude.{Bool, true, false, not, All, filter_map, if◌then◌else◌, Option, Some, None, nat_lt}
+use Rattle.std.specs.Prelude.{Bool, true, false, All, filter_map, if◌then◌else◌, Option, Some, None, nat_lt}
 use Rattle.std.proofs.lemmas.Bool.{ltb-true}
 use Rattle.std.proofs.lemmas.List.{reverse-append}
 use Rattle.std.proofs.lemmas.List.Elements.{All-nil, All-cons, All-head, All-tail, All-push, All-same, All-append, All-map, All-weaker}
@@ -9,16 +9,12 @@ use Rattle.ak_core.specs.declared.moves.Exit.TheVariants.{Still}
 use Rattle.ak_core.specs.declared.event.Event.{Event}
 use Rattle.ak_core.specs.declared.event.Event.TheVariants.{Call, Miss, Trap, Break}
 use Rattle.ak_core.specs.declared.moves.Move.{Move}
-use Rattle.ak_core.specs.declared.moves.Move.TheVariants.{SetPte, ReadPte, Eblock, Etrack, Ewb, Eldu, Eldb, Eremove, Epa, Discard, Eenter, Eresume, Run, Interrupt}
-use Rattle.ak_core.specs.declared.moves.Answer.{Answer}
-use Rattle.ak_core.specs.declared.moves.Answer.TheVariants.{Ok, NoLp, Outside}
-use Rattle.ak_model.specs.History.{History, Change, Exits, if_ok, if_handle, if_left, if_exit}
+use Rattle.ak_core.specs.declared.moves.Move.TheVariants.{Run}
+use Rattle.ak_model.specs.History.{History, Exits, if_left}
 use Rattle.ak_model.specs.Inside.{inside, someone_inside}
 use Rattle.ak_model.specs.Control.{Context, Program, Entry, Probe, Finish, Guard, Leave, Control}
 use Rattle.ak_model.specs.Turn.{Turn, Goes, Leaves}
 use Rattle.ak_model.specs.Turns.{turn, Ran, go_on, run, unless_left, before_turns}
-use Rattle.ak_model.specs.Answers.{answer, enter_answer, resume_answer, if_inside}
-use Rattle.ak_model.specs.Entering.{on_exit}
 use Rattle.ak_model.specs.Trace.{Moment, step, trace}
 use Rattle.ak_model.specs.Moments.{turn_moments, moments}
 use Rattle.ak_model.specs.ProgramTurns.{ProgramTurn, turn_at, turn_in, turns_in, turns_of_run, turns_of_move, program_turns}
@@ -27,10 +23,11 @@ use Rattle.ak_model.specs.Queue.{queue_after}
 use Rattle.ak_model.specs.Orderly.{IsOrderly, TurnIsOrderly, after_event, after_turn, OrderlyAfter, KeepsLaws}
 use Rattle.ak_model.proofs.Queues.{queue_after-more}
 use Rattle.ak_model.proofs.Placed.{placed}
-use Rattle.ak_model.proofs.Someone.{IsQuiet, someone_after, is_someone, quiet_ok, quiet_handle}
+use Rattle.ak_model.proofs.Someone.{someone_after, is_someone}
+use Rattle.ak_model.proofs.Moved.{reading, each_move}
 use Rattle.ak_model.proofs.OrderlySteps.{ClustersFit}
 use Rattle.ak_model.proofs.OrderlyTurns.{turn_fits}
-use Rattle.ak_model.proofs.OrderlyMoves.{AfterChange, widen, quiet, enter_fits, resume_fits, interrupt_fits}
+use Rattle.ak_model.proofs.OrderlyMoves.{AfterChange, widen, enter_fits, resume_fits, interrupt_fits}
 
 module _ (layout : Layout) where
   -- ---- The misses so far
@@ -90,45 +87,33 @@ module _ (layout : Layout) where
           All-cons Keeps control (unless_left t (before_turns layout past n)) (queue_by layout older, old) on.1,
         )
 
-    ran_after : (so_far : List ℕ) (ran : Ran) → someone_inside layout past ≡ true → RanIsOrderly so_far ran → AfterChange layout so_far past (if_left ran.exit (Exits lp ran.exit)) ran.control
+    ran_after : (so_far : List ℕ) (ran : Ran) → someone_inside layout past ≡ true → RanIsOrderly so_far ran → AfterChange layout so_far past (reading (if_left ran.exit (Exits lp ran.exit))) ran.control
     ran_after so_far ran someone h =
         elim h [
           | inl s ↦
-              subst (λ exit. AfterChange layout so_far past (if_left exit (Exits lp exit)) ran.control) (sym s.0)
+              subst (λ exit. AfterChange layout so_far past (reading (if_left exit (Exits lp exit))) ran.control) (sym s.0)
               (subst (λ b. IsOrderly layout so_far b ran.control) (sym someone) s.1)
           | inr f ↦ widen layout so_far (someone_after layout past (if_left ran.exit (Exits lp ran.exit))) ran.control f
         ]
 
-    run_by : (older : List ProgramTurn) (control : Control) (n : ℕ) (there within : Bool) → nat_lt lp layout.lps ≡ there → inside past lp ≡ within → (within ≡ true → there ≡ true) → IsOrderly layout (queue_by layout older) (someone_inside layout past) control → (let a = if not there then NoLp else (if not within then Outside else Answer.Exit (run layout past n control).exit) in AfterChange layout (queue_by layout ((if within then reverse (turns_of_run layout lp past n control) else []) ++ older)) past (if_exit a (λ exit. Exits lp exit)) (on_exit a control (run layout past n control).control))
-    run_by older control n false false e d low old = old
-    run_by older control n false true e d low old = absurd (let x = low refl in cc)
-    run_by older control n true false e d low old = old
-    run_by older control n true true e d low old =
-        let someone = is_someone layout past lp (ltb-true lp layout.lps e) d in
-        ran_after _ (run layout past n control) someone (run_fits n older control (subst (λ b. IsOrderly layout (queue_by layout older) b control) someone old)).0
-
   -- ---- Whole traces
 
   module _ (fit : ClustersFit layout) where
-    quietly : (older : List ProgramTurn) (moment : Moment) (c : Change) → IsQuiet layout c → OrderlyAfter layout older moment → AfterChange layout (queue_by layout older) moment.past c moment.control
-    quietly older moment c q old = quiet layout (queue_by layout older) moment.past c moment.control q old
-
     -- one more move
     pub step_fits : (older : List ProgramTurn) (moment : Moment) (m : Move) → ((lp : ℕ) → inside moment.past lp ≡ true → nat_lt lp layout.lps ≡ true) → OrderlyAfter layout older moment → OrderlyAfter layout (turns_of_move layout moment m ++ older) (step layout moment m)
-    step_fits older moment (SetPte p f flags) low old = quietly older moment (if_ok (answer layout moment.past moment.control (SetPte p f flags)) _) (quiet_ok layout (answer layout moment.past moment.control (SetPte p f flags)) _ tt) old
-    step_fits older moment (ReadPte p) low old = old
-    step_fits older moment (Eblock f) low old = quietly older moment (if_ok (answer layout moment.past moment.control (Eblock f)) _) (quiet_ok layout (answer layout moment.past moment.control (Eblock f)) _ tt) old
-    step_fits older moment Etrack low old = quietly older moment (if_ok (answer layout moment.past moment.control Etrack) _) (quiet_ok layout (answer layout moment.past moment.control Etrack) _ tt) old
-    step_fits older moment (Ewb f va i) low old = quietly older moment (if_handle (answer layout moment.past moment.control (Ewb f va i)) _) (quiet_handle layout (answer layout moment.past moment.control (Ewb f va i)) _ (λ k. tt)) old
-    step_fits older moment (Eldu f k p va i) low old = quietly older moment (if_ok (answer layout moment.past moment.control (Eldu f k p va i)) _) (quiet_ok layout (answer layout moment.past moment.control (Eldu f k p va i)) _ tt) old
-    step_fits older moment (Eldb f k p va i) low old = quietly older moment (if_ok (answer layout moment.past moment.control (Eldb f k p va i)) _) (quiet_ok layout (answer layout moment.past moment.control (Eldb f k p va i)) _ tt) old
-    step_fits older moment (Eremove f) low old = quietly older moment (if_ok (answer layout moment.past moment.control (Eremove f)) _) (quiet_ok layout (answer layout moment.past moment.control (Eremove f)) _ tt) old
-    step_fits older moment (Epa f) low old = quietly older moment (if_ok (answer layout moment.past moment.control (Epa f)) _) (quiet_ok layout (answer layout moment.past moment.control (Epa f)) _ tt) old
-    step_fits older moment (Discard k) low old = quietly older moment (if_ok (answer layout moment.past moment.control (Discard k)) _) (quiet_ok layout (answer layout moment.past moment.control (Discard k)) _ tt) old
-    step_fits older moment (Eenter lp v) low old = enter_fits layout (queue_by layout older) moment.past moment.control lp.0 v (enter_answer layout moment.past moment.control lp.0) refl old
-    step_fits older moment (Eresume lp) low old = resume_fits layout (queue_by layout older) moment.past moment.control lp.0 (resume_answer layout moment.past moment.control lp.0) refl old
-    step_fits older moment (Run lp n) low old = run_by fit lp.0 moment.past older moment.control n (nat_lt lp.0 layout.lps) (inside moment.past lp.0) refl refl (low lp.0) old
-    step_fits older moment (Interrupt lp) low old = interrupt_fits layout (queue_by layout older) moment.past moment.control lp.0 (if_inside layout moment.past lp.0 Ok) old
+    step_fits older moment m low old =
+        let past : History = moment.past in
+        let control : Control = moment.control in
+        let so_far : List ℕ = queue_by layout older in
+        each_move layout moment (λ e. AfterChange layout (queue_by layout (e.turns ++ older)) past e.change e.next)
+        (record {
+          quiet = old;
+          enters = λ lp v there out few. enter_fits layout so_far past control lp v there out few old;
+          resumes = λ lp saved rest there out free e. resume_fits layout so_far past control lp saved rest there out free e old;
+          interrupts = λ lp d. interrupt_fits layout so_far past control lp old;
+          runs = λ lp n d someone. ran_after fit lp past _ (run layout past n control) someone (run_fits fit lp past n older control (subst (λ b. IsOrderly layout so_far b control) someone old)).0;
+        })
+        low m
 
     abbrev At : List Event → List Move → Type 0
     At tape moves = OrderlyAfter layout (program_turns layout tape moves) (trace layout tape moves)
@@ -160,19 +145,7 @@ module _ (layout : Layout) where
         let moment = trace layout tape moves in
         turns_by (program_turns layout tape moves) moment lp.0 n (inside moment.past lp.0)
         (λ e. is_someone layout moment.past lp.0 (ltb-true lp.0 layout.lps (placed layout lp.0 tape moves e)) e) old
-    all_turns tape moves (SetPte p f flags) old = All-nil (KeepsLaws layout)
-    all_turns tape moves (ReadPte p) old = All-nil (KeepsLaws layout)
-    all_turns tape moves (Eblock f) old = All-nil (KeepsLaws layout)
-    all_turns tape moves Etrack old = All-nil (KeepsLaws layout)
-    all_turns tape moves (Ewb f va i) old = All-nil (KeepsLaws layout)
-    all_turns tape moves (Eldu f k p va i) old = All-nil (KeepsLaws layout)
-    all_turns tape moves (Eldb f k p va i) old = All-nil (KeepsLaws layout)
-    all_turns tape moves (Eremove f) old = All-nil (KeepsLaws layout)
-    all_turns tape moves (Epa f) old = All-nil (KeepsLaws layout)
-    all_turns tape moves (Discard k) old = All-nil (KeepsLaws layout)
-    all_turns tape moves (Eenter lp v) old = All-nil (KeepsLaws layout)
-    all_turns tape moves (Eresume lp) old = All-nil (KeepsLaws layout)
-    all_turns tape moves (Interrupt lp) old = All-nil (KeepsLaws layout)
+    all_turns tape moves _ old = All-nil (KeepsLaws layout)
 
     -- every moment
     pub moments_fit : (tape : List Event) (moves : List Move) → At tape [] → All (KeepsLaws layout) (moments layout tape moves)

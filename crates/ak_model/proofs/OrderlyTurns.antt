@@ -3,12 +3,14 @@ use Rattle.std.proofs.Common.{◌≡◌, ℕ, zero, suc, ◌+◌, ◌≤◌, Lis
 use Rattle.std.specs.Prelude.{Bool, true, false, not, find, if◌then◌else◌, Option, Some, None, is_some, ◌==◌}
 use Rattle.std.specs.Bool.{then_some}
 use Rattle.std.proofs.lemmas.Bool.{eq-eqb}
+use Rattle.std.proofs.lemmas.Bool.Decides.{nat_tests}
 use Rattle.ak_core.specs.Layout.{Layout}
 use Rattle.ak_core.specs.Mem.{Touch, touch}
 use Rattle.ak_core.specs.declared.moves.Exit.{Exit}
 use Rattle.ak_core.specs.declared.event.Event.{Event}
 use Rattle.ak_core.specs.declared.event.Event.TheVariants.{Call, Miss, Trap, Break}
 use Rattle.ak_core.specs.declared.event.StopCause.TheVariants.{Stuck}
+use Rattle.ak_core.specs.declared.page.Kind.TheVariants.{Write, Exec}
 use Rattle.ak_model.specs.Build.{steps_walk}
 use Rattle.ak_model.specs.History.{History}
 use Rattle.ak_model.specs.Walk.{touch_walkable}
@@ -20,10 +22,11 @@ use Rattle.ak_model.specs.Premises.{MissesFit}
 use Rattle.ak_model.specs.StepRows.{HasRow, IsInRow}
 use Rattle.ak_model.specs.Queue.{after_miss, is_in}
 use Rattle.ak_model.specs.Orderly.{ContextFits, NowFits, ReasonFits, FaultFits, refuses_by, PhaseFits, miss_of, after_miss_if, ServedBy, IsOrderly, TurnIsOrderly, after_event, after_turn, IsOwnAccess}
-use Rattle.ak_model.proofs.OrderlySteps.{empty_if, ClustersFit, effect_fits}
-use Rattle.std.proofs.lemmas.Bool.Decides.{nat_tests}
-use Rattle.ak_core.specs.declared.page.Kind.TheVariants.{Write, Exec}
 use Rattle.ak_model.specs.Pages.{pages, ssa_page, state_page, code_page, strong_kind}
+use Rattle.ak_model.proofs.OrderlySteps.{empty_if, ClustersFit, effect_fits}
+
+pub rw_kind : (layout : Layout) (p : ℕ) → pages layout < p → p < pages layout + 5 → strong_kind layout p ≡ Write
+rw_kind layout p low high = grind (arith, nat_tests)
 
 module _ (layout : Layout) (so_far : List ℕ) where
   -- ---- The access at which a step faults
@@ -40,14 +43,11 @@ module _ (layout : Layout) (so_far : List ℕ) where
   found phase context test [] t h e = absurd (cc)
   found phase context test (x ∷ all) t h e = found_by test (FaultFits layout phase context) x (test x) (find test all) t h.0 (λ later. found phase context test all t h.1 later) e
 
-  rw_kind : (p : ℕ) → pages layout < p → p < pages layout + 5 → strong_kind layout p ≡ Write
-  rw_kind p low high = grind (arith, nat_tests)
-
   code_own : IsOwnAccess layout (touch (code_page layout) Exec)
   code_own = let e : strong_kind layout (code_page layout) ≡ Exec = grind (arith, nat_tests) in (omega arith, omega arith, sym e)
 
   write_own : (p : ℕ) → pages layout < p → p < pages layout + 5 → IsOwnAccess layout (touch p Write)
-  write_own p low high = (low, omega arith, sym (rw_kind p low high))
+  write_own p low high = (low, omega arith, sym (rw_kind layout p low high))
 
   state_own : IsOwnAccess layout (touch (state_page layout) Write)
   state_own = write_own (state_page layout) (omega arith) (omega arith)

@@ -5,16 +5,15 @@ use Rattle.std.proofs.lemmas.Bool.{eqb-true}
 use Rattle.ak_core.specs.Layout.{Layout}
 use Rattle.ak_core.specs.declared.event.Event.{Event}
 use Rattle.ak_core.specs.declared.moves.Move.{Move}
-use Rattle.ak_core.specs.declared.moves.Move.TheVariants.{SetPte, ReadPte, Eblock, Etrack, Ewb, Eldu, Eldb, Eremove, Epa, Discard, Eenter, Eresume, Run, Interrupt}
+use Rattle.ak_core.specs.declared.moves.Move.TheVariants.{ReadPte, Ewb, Eenter, Eresume, Run, Interrupt}
 use Rattle.ak_core.specs.declared.moves.Answer.{Answer}
-use Rattle.ak_core.specs.declared.moves.Answer.TheVariants.{Ok, OkHandle, NoLp}
-use Rattle.ak_core.specs.declared.moves.Exit.{Exit}
-use Rattle.ak_core.specs.declared.moves.Exit.TheVariants.{Still}
-use Rattle.ak_model.specs.History.{History, Change, Maps, Blocks, Cycles, WritesOut, Loads, Removes, MakesVa, Discards, Enters, Resumes, Exits, Interrupts, if_ok, if_handle, if_left, if_exit, change}
+use Rattle.ak_core.specs.declared.moves.Answer.TheVariants.{NoLp}
+use Rattle.ak_model.specs.History.{History, Change, Enters, Resumes, Exits, Interrupts, if_ok, change}
 use Rattle.ak_model.specs.Inside.{since_after, since, inside}
 use Rattle.ak_model.specs.Control.{Control}
 use Rattle.ak_model.specs.Answers.{answer}
 use Rattle.ak_model.specs.Trace.{trace}
+use Rattle.ak_model.proofs.Changes.{ok_holds, handle_holds, exit_holds}
 
 module _ (layout : Layout) (lp : ℕ) where
   abbrev There : Option ℕ → Type 0
@@ -32,46 +31,23 @@ module _ (layout : Layout) (lp : ℕ) where
     abbrev Stays : Change → Type 0
     Stays c = There (since_after c lp place before)
 
-    ok_stays : (a : Answer) (c : Change) → Stays c → Stays (if_ok a c)
-    ok_stays Ok c h = h
-    ok_stays _ c h = known
-
-    handle_stays : (a : Answer) (c : ℕ → Change) → ((k : ℕ) → Stays (c k)) → Stays (if_handle a c)
-    handle_stays (OkHandle k) c h = h k.0
-    handle_stays _ c h = known
-
-    left_stays : (exit : Exit) (c : Change) → Stays c → Stays (if_left exit c)
-    left_stays Still c h = known
-    left_stays _ c h = h
-
-    exit_stays : (a : Answer) (c : Exit → Change) → ((exit : Exit) → Stays (c exit)) → Stays (if_exit a c)
-    exit_stays (Answer.Exit exit) c h = left_stays exit (c exit) (h exit)
-    exit_stays _ c h = known
-
     -- an entry of a processor that the layout does not have is refused
     entry_stays : (q : ℕ) (a : Answer) (c : Change) (b : Bool) → nat_lt q layout.lps ≡ b → (nat_lt q layout.lps ≡ true → Stays c) → Stays (if_ok (if not b then NoLp else a) c)
-    entry_stays q a c true e h = ok_stays a c (h e)
+    entry_stays q a c true e h = ok_holds Stays known a c (λ ok. h e)
     entry_stays q a c false e h = known
 
     answer_stays : (past : History) (control : Control) (m : Move) → Stays (change m (answer layout past control m))
-    answer_stays past control (SetPte p f flags) = ok_stays (answer layout past control (SetPte p f flags)) (Maps p.0 f.0 flags) known
     answer_stays past control (ReadPte p) = known
-    answer_stays past control (Eblock f) = ok_stays (answer layout past control (Eblock f)) (Blocks f.0) known
-    answer_stays past control Etrack = ok_stays (answer layout past control Etrack) Cycles known
-    answer_stays past control (Ewb f va i) = handle_stays (answer layout past control (Ewb f va i)) (λ k. WritesOut f.0 va.0 i k) (λ k. known)
-    answer_stays past control (Eldu f k p va i) = ok_stays (answer layout past control (Eldu f k p va i)) (Loads f.0 k.0 p.0 va.0 i false) known
-    answer_stays past control (Eldb f k p va i) = ok_stays (answer layout past control (Eldb f k p va i)) (Loads f.0 k.0 p.0 va.0 i true) known
-    answer_stays past control (Eremove f) = ok_stays (answer layout past control (Eremove f)) (Removes f.0) known
-    answer_stays past control (Epa f) = ok_stays (answer layout past control (Epa f)) (MakesVa f.0) known
-    answer_stays past control (Discard k) = ok_stays (answer layout past control (Discard k)) (Discards k.0) known
+    answer_stays past control (Ewb f va i) = handle_holds Stays known (answer layout past control (Ewb f va i)) _ (λ k h. known)
     answer_stays past control (Eenter q v) =
         entry_stays q.0 _ (Enters q.0 v) (nat_lt q.0 layout.lps) refl (λ lt. same_there q.0 place before (lp == q.0) refl lt known)
     answer_stays past control (Eresume q) =
         entry_stays q.0 _ (Resumes q.0) (nat_lt q.0 layout.lps) refl (λ lt. same_there q.0 place before (lp == q.0) refl lt known)
     answer_stays past control (Run q n) =
-        exit_stays (answer layout past control (Run q n)) (λ exit. Exits q.0 exit) (λ exit. none_there (lp == q.0) before known)
+        exit_holds Stays known (answer layout past control (Run q n)) (λ exit. Exits q.0 exit) (λ exit. none_there (lp == q.0) before known)
     answer_stays past control (Interrupt q) =
-        ok_stays (answer layout past control (Interrupt q)) (Interrupts q.0) (none_there (lp == q.0) before known)
+        ok_holds Stays known (answer layout past control (Interrupt q)) (Interrupts q.0) (λ h. none_there (lp == q.0) before known)
+    answer_stays past control m = ok_holds Stays known (answer layout past control m) _ (λ h. known)
 
   -- a processor inside is one of the layout's
   pub placed : (tape : List Event) (moves : List Move) → inside (trace layout tape moves).past lp ≡ true → nat_lt lp layout.lps ≡ true

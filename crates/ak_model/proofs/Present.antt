@@ -1,7 +1,7 @@
 -- One processor at most is inside, and a context goes on just where one is.
 use Rattle.std.proofs.Common.{◌≡◌, ◌⊎◌, inl, inr, ℕ, zero, suc, ◌+◌, ◌<◌, List, [], ◌∷◌, length, refl, ap, sym, ◌∙◌, subst}
-use Rattle.std.specs.Prelude.{Bool, true, false, not, All, if◌then◌else◌, Option, Some, None, is_some, nat_lt, ◌==◌}
-use Rattle.std.proofs.lemmas.Bool.{eq-eqb, eqb-true, eqb-false, ltb-true}
+use Rattle.std.specs.Prelude.{Bool, true, false, All, if◌then◌else◌, Option, Some, None, is_some, nat_lt, ◌==◌}
+use Rattle.std.proofs.lemmas.Bool.{eq-eqb, eqb-true, ltb-true}
 use Rattle.std.proofs.lemmas.List.Elements.{All-nil, All-cons}
 use Rattle.ak_core.specs.Layout.{Layout}
 use Rattle.ak_core.specs.Mem.{Touch}
@@ -9,18 +9,17 @@ use Rattle.ak_core.specs.declared.event.Event.{Event}
 use Rattle.ak_core.specs.declared.event.Event.TheVariants.{Call, Miss, Trap, Break}
 use Rattle.ak_core.specs.declared.moves.Exit.{Exit}
 use Rattle.ak_core.specs.declared.moves.Exit.TheVariants.{Still}
-use Rattle.ak_core.specs.declared.moves.Answer.{Answer}
-use Rattle.ak_core.specs.declared.moves.Answer.TheVariants.{Ok, NoLp, Outside, Gp}
-use Rattle.ak_model.specs.History.{History, Change, Unchanged, Maps, Blocks, Cycles, WritesOut, Loads, Removes, MakesVa, Discards, Enters, Resumes, Exits, Interrupts, if_ok, if_left, if_exit}
+use Rattle.ak_model.specs.History.{History, Change, Unchanged, Enters, Resumes, Exits, Interrupts, if_left}
 use Rattle.ak_model.specs.Inside.{since, since_after, inside, someone_inside}
-use Rattle.ak_model.specs.Control.{Phase, New, Running, Calling, Asked, Ended, Trapped, Dead, Context, Program, Entry, Probe, Finish, Guard, Leave, Reason, Interrupted, Cleared, Raised, Denied, Missed, Broke, Faulted, Saved, Control, cssa}
+use Rattle.ak_model.specs.Control.{Phase, New, Running, Calling, Asked, Ended, Trapped, Dead, Context, Program, Entry, Probe, Finish, Guard, Leave, Reason, Interrupted, Cleared, Raised, Denied, Missed, Broke, Faulted, Saved, Control}
 use Rattle.ak_model.specs.Turn.{Turn, Goes, Leaves}
 use Rattle.ak_model.specs.RuntimeStep.{asked_pages, touches, step_fault, handle, enter, finish, resume_guard, leave_call, effect, unless_fault}
 use Rattle.ak_model.specs.ProgramStep.{due, event_turn}
 use Rattle.ak_model.specs.Turns.{turn_of, turn, Ran, go_on, run, unless_left, before_turns}
-use Rattle.ak_model.specs.Answers.{enter_answer, resume_answer}
-use Rattle.ak_model.specs.Entering.{entered, resumed_by, interrupted_by, on_ok, on_exit}
-use Rattle.ak_model.proofs.Someone.{other, someone_after, entered_someone, resumed_someone, is_someone, outside_ok, IsQuiet}
+use Rattle.ak_model.specs.Entering.{entered, resumed_by, interrupted_by}
+use Rattle.ak_model.proofs.Tests.{either_way}
+use Rattle.ak_model.proofs.Someone.{someone_after, entered_someone, resumed_someone, is_someone}
+use Rattle.ak_model.proofs.Moved.{Reading, reading, someone_then}
 
 -- the processor is still inside
 abbrev is_still : Exit → Bool
@@ -32,10 +31,6 @@ abbrev TurnPresent : Turn → Type 0
 TurnPresent (Goes control) = is_some control.now ≡ true
 TurnPresent (Leaves exit control) = (is_still exit ≡ false) × (is_some control.now ≡ false)
 
-either : (b : Bool) (t u : Turn) → TurnPresent t → TurnPresent u → TurnPresent (if b then t else u)
-either true t u h k = h
-either false t u h k = k
-
 module _ (layout : Layout) where
   module _ (control : Control) (some : is_some control.now ≡ true) where
     by_reason : (k : ℕ) (inner : Context) (reason : Reason) (older : List Saved) → TurnPresent (handle layout control k (record { context = inner; reason = reason } ∷ older))
@@ -45,7 +40,7 @@ module _ (layout : Layout) where
     by_reason k inner Denied older = (refl, refl)
     by_reason k inner Broke older = (refl, refl)
     by_reason k inner (Missed c) older = (refl, refl)
-    by_reason k inner (Faulted t) older = either (k == 2) _ _ (refl, refl) (refl, refl)
+    by_reason k inner (Faulted t) older = either_way TurnPresent (k == 2) _ _ (refl, refl) (refl, refl)
 
     handled : (k : ℕ) (stack : List Saved) → TurnPresent (handle layout control k stack)
     handled k [] = (refl, refl)
@@ -107,7 +102,7 @@ module _ (layout : Layout) where
     event_present (Some (Call i b a)) = refl
     event_present (Some (Miss i c)) = (refl, refl)
     event_present (Some (Break i)) = (refl, refl)
-    event_present (Some (Trap i v)) = either (v == 14) _ _ (refl, refl) (refl, refl)
+    event_present (Some (Trap i v)) = either_way TurnPresent (v == 14) _ _ (refl, refl) (refl, refl)
 
     turn_by : (past : History) (now : Option Context) → TurnPresent (turn_of layout past control now)
     turn_by past None = some
@@ -148,31 +143,17 @@ module _ (layout : Layout) where
     pub context : (p : ℕ) → inside p ≡ true → is_some control.now ≡ true
     pub someone_is : is_some control.now ≡ true → someone ≡ true
 
-  abbrev After : History → Change → Control → Type 0
-  After past c control = Present (λ p. is_some (since_after c p (length past + 1) (since past p))) (someone_after layout past c) control
-
   module _ (past : History) (control : Control) (low : (p : ℕ) → inside past p ≡ true → nat_lt p layout.lps ≡ true) (old : Present (inside past) (someone_inside layout past) control) where
-    pub quiet : (c : Change) → IsQuiet layout c → After past c control
-    quiet Unchanged q = old
-    quiet (Maps p f flags) q = old
-    quiet (Blocks f) q = old
-    quiet Cycles q = old
-    quiet (WritesOut f va i k) q = old
-    quiet (Loads f k p va i blocked) q = old
-    quiet (Removes f) q = old
-    quiet (MakesVa f) q = old
-    quiet (Discards k) q = old
-    quiet (Enters lp v) q = absurd q
-    quiet (Resumes lp) q = absurd q
-    quiet (Exits lp exit) q = absurd q
-    quiet (Interrupts lp) q = absurd q
+    -- what stands after a move that this is read of
+    abbrev pub After : Reading → Control → Type 0
+    After change next = Present (λ p. is_some (change.since p (length past + 1) (since past p))) (someone_then layout past change) next
 
     -- where nobody was inside, only the processor that enters is
     only : (lp q place : ℕ) (b : Bool) → (q == lp) ≡ b → someone_inside layout past ≡ false → is_some (if b then Some place else since past q) ≡ true → q ≡ lp
     only lp q place true e out h = eqb-true q lp e
     only lp q place false e out h = absurd (let x = is_someone layout past q (ltb-true q layout.lps (low q h)) h in cc)
 
-    comes : (lp : ℕ) (next : Control) (c : Change) → ((q : ℕ) → since_after c q (length past + 1) (since past q) ≡ (if q == lp then Some (length past + 1) else since past q)) → someone_inside layout past ≡ false → is_some next.now ≡ true → someone_after layout past c ≡ true → After past c next
+    comes : (lp : ℕ) (next : Control) (c : Change) → ((q : ℕ) → since_after c q (length past + 1) (since past q) ≡ (if q == lp then Some (length past + 1) else since past q)) → someone_inside layout past ≡ false → is_some next.now ≡ true → someone_after layout past c ≡ true → After (reading c) next
     comes lp next c e out some there = record {
       alone = λ p q h k. at p h ∙ sym (at q k);
       context = λ p h. some;
@@ -182,6 +163,12 @@ module _ (layout : Layout) where
         at : (q : ℕ) → is_some (since_after c q (length past + 1) (since past q)) ≡ true → q ≡ lp
         at q h = only lp q (length past + 1) (q == lp) refl out (subst (λ o. is_some o ≡ true) (e q) h)
 
+    pub enters : (lp v : ℕ) → lp < layout.lps → someone_inside layout past ≡ false → After (reading (Enters lp v)) (entered control v)
+    enters lp v there out = comes lp (entered control v) (Enters lp v) (λ q. refl) out refl (entered_someone layout past lp v there)
+
+    pub resumes : (lp : ℕ) (saved : Saved) (rest : List Saved) → lp < layout.lps → someone_inside layout past ≡ false → After (reading (Resumes lp)) (resumed_by control (saved ∷ rest))
+    resumes lp saved rest there out = comes lp (resumed_by control (saved ∷ rest)) (Resumes lp) (λ q. refl) out refl (resumed_someone layout past lp there)
+
     -- nobody is left inside
     nobody : (lp q : ℕ) (b : Bool) → (q == lp) ≡ b → inside past lp ≡ true → is_some (if b then None else since past q) ≡ true → ⊥
     nobody lp q true e h k = cc
@@ -189,7 +176,7 @@ module _ (layout : Layout) where
         let same : q ≡ lp = old.alone q lp k h in
         let x : (q == lp) ≡ true = eq-eqb q lp same in cc
 
-    goes : (lp : ℕ) (next : Control) (c : Change) → ((q : ℕ) → since_after c q (length past + 1) (since past q) ≡ (if q == lp then None else since past q)) → inside past lp ≡ true → is_some next.now ≡ false → After past c next
+    goes : (lp : ℕ) (next : Control) (c : Change) → ((q : ℕ) → since_after c q (length past + 1) (since past q) ≡ (if q == lp then None else since past q)) → inside past lp ≡ true → is_some next.now ≡ false → After (reading c) next
     goes lp next c e h out = record {
       alone = λ p q x y. absurd (none p x);
       context = λ p x. absurd (none p x);
@@ -199,49 +186,26 @@ module _ (layout : Layout) where
         none : (q : ℕ) → is_some (since_after c q (length past + 1) (since past q)) ≡ true → ⊥
         none q x = nobody lp q (q == lp) refl h (subst (λ o. is_some o ≡ true) (e q) x)
 
-    -- ---- Answers
-
-    pub enter_after : (lp v : ℕ) (a : Answer) → a ≡ enter_answer layout past control lp → After past (if_ok a (Enters lp v)) (on_ok a control (entered control v))
-    enter_after lp v Ok e =
-        let o = outside_ok layout past lp _ (sym e) in
-        comes lp (entered control v) (Enters lp v) (λ q. refl) o.1 refl (entered_someone layout past lp v o.0)
-    enter_after lp v _ e = old
-
-    resumed : (lp : ℕ) (stack : List Saved) → (length stack ≡ 0 → ⊥) → lp < layout.lps → someone_inside layout past ≡ false → After past (Resumes lp) (resumed_by control stack)
-    resumed lp [] some low out = absurd (some refl)
-    resumed lp (saved ∷ older) some low out = comes lp (resumed_by control (saved ∷ older)) (Resumes lp) (λ q. refl) out refl (resumed_someone layout past lp low)
-
-    pub resume_after : (lp : ℕ) (a : Answer) → a ≡ resume_answer layout past control lp → After past (if_ok a (Resumes lp)) (on_ok a control (resumed_by control control.stack))
-    resume_after lp Ok e =
-        let o = outside_ok layout past lp _ (sym e) in
-        let g = other (cssa control == 0) Gp _ Ok (λ x. cc) o.2 in
-        resumed lp control.stack (eqb-false (cssa control) 0 g.0) o.0 o.1
-    resume_after lp _ e = old
-
     saved_now : (now : Option Context) → control.now ≡ now → is_some (interrupted_by control now).now ≡ false
     saved_now None e = ap is_some e
     saved_now (Some context) e = refl
 
-    pub interrupt_by : (lp : ℕ) (there within : Bool) → inside past lp ≡ within → (let a = if not there then NoLp else (if not within then Outside else Ok) in After past (if_ok a (Interrupts lp)) (on_ok a control (interrupted_by control control.now)))
-    interrupt_by lp false within e = old
-    interrupt_by lp true false e = old
-    interrupt_by lp true true e = goes lp (interrupted_by control control.now) (Interrupts lp) (λ q. refl) e (saved_now control.now refl)
+    pub interrupts : (lp : ℕ) → inside past lp ≡ true → After (reading (Interrupts lp)) (interrupted_by control control.now)
+    interrupts lp e = goes lp (interrupted_by control control.now) (Interrupts lp) (λ q. refl) e (saved_now control.now refl)
 
-    left : (lp : ℕ) (exit : Exit) (next : Control) → is_still exit ≡ false → inside past lp ≡ true → is_some next.now ≡ false → After past (if_left exit (Exits lp exit)) next
+    left : (lp : ℕ) (exit : Exit) (next : Control) → is_still exit ≡ false → inside past lp ≡ true → is_some next.now ≡ false → After (reading (if_left exit (Exits lp exit))) next
     left lp Still next s h n = absurd (cc)
     left lp exit next s h n = goes lp next (Exits lp exit) (λ q. refl) h n
 
-    stays : (next : Control) → is_some next.now ≡ true → is_some control.now ≡ true → After past Unchanged next
+    stays : (next : Control) → is_some next.now ≡ true → is_some control.now ≡ true → After (reading Unchanged) next
     stays next some had = record { alone = old.alone; context = λ p h. some; someone_is = λ h. old.someone_is had }
 
-    ran_after : (lp : ℕ) (ran : Ran) → inside past lp ≡ true → RanPresent ran → After past (if_left ran.exit (Exits lp ran.exit)) ran.control
+    ran_after : (lp : ℕ) (ran : Ran) → inside past lp ≡ true → RanPresent ran → After (reading (if_left ran.exit (Exits lp ran.exit))) ran.control
     ran_after lp ran h r =
         elim r [
-          | inl s ↦ subst (λ exit. After past (if_left exit (Exits lp exit)) ran.control) (sym s.0) (stays ran.control s.1 (old.context lp h))
+          | inl s ↦ subst (λ exit. After (reading (if_left exit (Exits lp exit))) ran.control) (sym s.0) (stays ran.control s.1 (old.context lp h))
           | inr f ↦ left lp ran.exit ran.control f.0 h f.1
         ]
 
-    pub run_by : (lp n : ℕ) (there within : Bool) → inside past lp ≡ within → (let a = if not there then NoLp else (if not within then Outside else Answer.Exit (run layout past n control).exit) in After past (if_exit a (λ exit. Exits lp exit)) (on_exit a control (run layout past n control).control))
-    run_by lp n false within e = old
-    run_by lp n true false e = old
-    run_by lp n true true e = ran_after lp (run layout past n control) e (run_present past n control (old.context lp e)).0
+    pub runs : (lp n : ℕ) → inside past lp ≡ true → (let ran = run layout past n control in After (reading (if_left ran.exit (Exits lp ran.exit))) ran.control)
+    runs lp n e = ran_after lp (run layout past n control) e (run_present past n control (old.context lp e)).0

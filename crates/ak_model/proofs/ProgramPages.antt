@@ -15,6 +15,7 @@ use Rattle.ak_model.specs.Pages.{pages}
 use Rattle.ak_model.specs.Instructions.{Plan, Traps, Computes, Reads, Writes, CallsOut, plan, divide, reg_of, with_reg, rax, rcx, rdx, rsi, rdi}
 use Rattle.ak_model.specs.Encodings.{decode}
 use Rattle.ak_model.specs.Flat.{Flat, line_of, Vector, page_at, is_program, operand_touches, if_operand, carry_out, straddling, in_first_page, line, rest_of_page, page_bytes}
+use Rattle.ak_model.proofs.Tests.{either_way}
 
 -- an operand has a byte
 abbrev HasByte : Plan → Type 0
@@ -22,13 +23,9 @@ HasByte (Reads address count regs) = 1 ≤ count
 HasByte (Writes address new regs) = 1 ≤ length new
 HasByte _ = Unit {0}
 
-if_byte : (b : Bool) (p q : Plan) → HasByte p → HasByte q → HasByte (if b then p else q)
-if_byte true p q h k = h
-if_byte false p q h k = k
-
 divide_byte : (regs : Regs) (n d : ℕ) → HasByte (divide regs n d)
 divide_byte regs n zero = tt
-divide_byte regs n (suc d) = if_byte (nat_lt (n / suc d) (2 ^ 64)) (Computes (with_reg (with_reg regs rax (n / suc d)) rdx (n % suc d))) (Traps 0) tt tt
+divide_byte regs n (suc d) = either_way HasByte (nat_lt (n / suc d) (2 ^ 64)) (Computes (with_reg (with_reg regs rax (n / suc d)) rdx (n % suc d))) (Traps 0) tt tt
 
 plan_byte : (instr : Instr) (regs : Regs) → HasByte (plan instr regs)
 plan_byte (MovImm reg imm) regs = tt
@@ -57,7 +54,7 @@ plan_byte (Push reg) regs = omega arith
 plan_byte (Pop reg) regs = omega arith
 plan_byte Nop regs = tt
 plan_byte Undefined regs = tt
-plan_byte Enclu regs = if_byte (reg_of regs rax % 2 ^ 32 == 4) (CallsOut (reg_of regs rdi) (reg_of regs rsi) (with_reg regs rcx regs.rip)) (Traps 13) tt tt
+plan_byte Enclu regs = either_way HasByte (reg_of regs rax % 2 ^ 32 == 4) (CallsOut (reg_of regs rdi) (reg_of regs rsi) (with_reg regs rcx regs.rip)) (Traps 13) tt tt
 
 module _ (layout : Layout) where
   -- each access is of a page of the program
@@ -79,15 +76,11 @@ module _ (layout : Layout) where
       let above = leb-true layout.base address parts.0 in
       low_page x (pages layout) (omega arith)
 
-  either_low : (b : Bool) (xs ys : List Touch) → AllLow xs → AllLow ys → AllLow (if b then xs else ys)
-  either_low true xs ys h k = h
-  either_low false xs ys h k = k
-
   operand_low : (touches : List Touch) (address count : ℕ) (kind : Kind) (flat : Flat) (b : Bool) → is_program layout address count ≡ b → 1 ≤ count → AllLow touches → AllLow (if_operand layout touches address count kind flat).touches
   operand_low touches address count kind flat true e some h =
       let first = program_page address count address e (omega arith) (omega arith) in
       let last = program_page address count (address + count - 1) e (omega arith) (omega arith) in
-      rw e (append_low touches (operand_touches layout address count kind) h (either_low (page_at layout address == page_at layout (address + count - 1)) (touch (page_at layout address) kind ∷ []) (touch (page_at layout address) kind ∷ touch (page_at layout (address + count - 1)) kind ∷ []) (first, tt) (first, (last, tt))))
+      rw e (append_low touches (operand_touches layout address count kind) h (either_way AllLow (page_at layout address == page_at layout (address + count - 1)) (touch (page_at layout address) kind ∷ []) (touch (page_at layout address) kind ∷ touch (page_at layout (address + count - 1)) kind ∷ []) (first, tt) (first, (last, tt))))
   operand_low touches address count kind flat false e some h = rw e h
 
   carry_low : (flat : Flat) (touches : List Touch) (p : Plan) → HasByte p → AllLow touches → AllLow (carry_out layout flat touches p).touches

@@ -1,8 +1,8 @@
 -- Under a kernel that evicts, an access of the program that was reached is of a cluster that is in.
-use Rattle.std.proofs.Common.{◌≡◌, ◌⊎◌, inl, inr, ℕ, zero, suc, ◌+◌, ◌<◌, ◌≤◌, List, [], ◌∷◌, length, arith, refl, ap, sym, ◌∙◌, subst}
-use Rattle.std.specs.Prelude.{Bool, true, false, not, ◌&&◌, ◌||◌, Some, is_some, nat_le, ◌==◌}
-use Rattle.std.specs.List.{range_with_len, list_all}
-use Rattle.std.proofs.lemmas.Bool.{and_parts, leb-true, ltb-true, eqb-true, eqb-false}
+use Rattle.std.proofs.Common.{◌≡◌, ◌⊎◌, inl, inr, ℕ, ◌+◌, ◌<◌, ◌≤◌, List, [], ◌∷◌, length, arith, refl, ap, sym, ◌∙◌, subst}
+use Rattle.std.specs.Prelude.{Bool, true, false, not, ◌&&◌, ◌||◌, Some, is_some, nat_le}
+use Rattle.std.specs.List.{list_all}
+use Rattle.std.proofs.lemmas.Bool.{or_cases, and_parts, leb-true, ltb-true, eqb-true}
 use Rattle.std.proofs.lemmas.List.Folds.{list_all-append}
 use Rattle.ak_core.specs.Layout.{Layout}
 use Rattle.ak_core.specs.Mem.{Touch}
@@ -20,36 +20,20 @@ use Rattle.ak_model.specs.Trace.{Moment, trace}
 use Rattle.ak_model.specs.Moments.{turn_moments, moments}
 use Rattle.ak_model.specs.Reached.{reached_since}
 use Rattle.ak_model.specs.Evicts.{is_asked_for, is_out, is_unmapped, keeps_out}
+use Rattle.ak_model.proofs.Tests.{implied, all_in_range}
 use Rattle.ak_model.proofs.Placed.{placed}
 use Rattle.ak_model.proofs.Someone.{is_someone}
 use Rattle.ak_model.proofs.PresentTrace.{is_present}
 use Rattle.ak_model.proofs.Stays.{Kept, then_kept, step_stays}
 
-all_of_range : (test : ℕ → Bool) (n a p : ℕ) → a ≤ p → p < a + n → list_all test (range_with_len a n) ≡ true → test p ≡ true
-all_of_range test zero a p low high h = absurd (omega arith)
-all_of_range test (suc n) a p low high h =
-    first (a == p) refl (and_parts (test a) (list_all test (range_with_len (a + 1) n)) h).0 (and_parts (test a) (list_all test (range_with_len (a + 1) n)) h).1 (λ ne k. all_of_range test n (a + 1) p (omega arith) (omega arith) k)
-  where
-    first : (b : Bool) → (a == p) ≡ b → test a ≡ true → list_all test (range_with_len (a + 1) n) ≡ true → ((a ≡ p → ⊥) → list_all test (range_with_len (a + 1) n) ≡ true → test p ≡ true) → test p ≡ true
-    first true e t k later = subst (λ y. test y ≡ true) (eqb-true a p e) t
-    first false e t k later = later (eqb-false a p e) k
-
 not_or : (a b : Bool) → (not a || b) ≡ true → b ≡ false → a ≡ false
 not_or false b h e = refl
 not_or true b h e = absurd (cc)
-
-or_left : (a b : Bool) → a ≡ true → (not a || b) ≡ true → b ≡ true
-or_left true b e h = h
-or_left false b e h = absurd (cc)
 
 one_of : (a b : Bool) → (not a && not b) ≡ false → (a ≡ true) ⊎ (b ≡ true)
 one_of true b h = inl refl
 one_of false true h = inr refl
 one_of false false h = absurd (cc)
-
-either : (a b : Bool) → (a || b) ≡ true → (a ≡ true) ⊎ (b ≡ true)
-either true b h = inl refl
-either false b h = inr h
 
 module _ (layout : Layout) where
   some_kind : (past : History) (p : ℕ) (kind : Kind) → walkable layout past p kind ≡ true → is_unmapped layout past p ≡ false
@@ -80,8 +64,8 @@ module _ (layout : Layout) where
   -- where a walk finds a page while a processor is inside, its cluster is in or asked for
   found_in : (moment : Moment) (t : Touch) → keeps_out layout moment ≡ true → someone_inside layout moment.past ≡ true → t.page.0 < pages layout → touch_walkable layout moment.past t ≡ true → (is_in moment.control.queue (cluster_at layout t.page.0) ≡ true) ⊎ (is_asked_for moment.control.phase (cluster_at layout t.page.0) ≡ true)
   found_in moment t out someone low h =
-      let all = or_left (someone_inside layout moment.past) _ someone out in
-      let here = all_of_range (λ p. not (is_out layout moment.control p) || is_unmapped layout moment.past p) (pages layout) 0 t.page.0 (omega arith) (omega arith) all in
+      let all = implied (someone_inside layout moment.past) _ someone out in
+      let here = all_in_range (λ p. not (is_out layout moment.control p) || is_unmapped layout moment.past p) (pages layout) 0 t.page.0 (omega arith) (omega arith) all in
       one_of (is_in moment.control.queue (cluster_at layout t.page.0)) (is_asked_for moment.control.phase (cluster_at layout t.page.0))
       (not_or (is_out layout moment.control t.page.0) (is_unmapped layout moment.past t.page.0) here (some_kind moment.past t.page.0 t.kind h))
 
@@ -96,7 +80,7 @@ module _ (layout : Layout) where
         let outs = and_parts (keeps_out layout here) _ out in
         let within : inside here.past lp ≡ true = ap is_some at in
         let someone = is_someone layout here.past lp (ltb-true lp layout.lps (placed layout lp tape (m ∷ moves) within)) within in
-        elim (either (touch_walkable layout here.past t) (reached_since layout place before.past t) parts.1) [
+        elim (or_cases (touch_walkable layout here.past t) (reached_since layout place before.past t) parts.1) [
           | inl found ↦
               elim (found_in here t outs.0 someone low found) [
                 | inl i ↦ subst (λ q. is_in q (cluster_at layout t.page.0) ≡ true) (sym kept.queue) i
@@ -106,7 +90,7 @@ module _ (layout : Layout) where
               ]
           | inr earlier ↦
               let le : place ≤ length before.past = earlier_place before.past earlier in
-              let more = step_stays layout before m lp place (is_present layout tape moves) le at in
+              let more = step_stays layout before m lp place (λ q. placed layout q tape moves) (is_present layout tape moves) le at in
               let rest : list_all (keeps_out layout) (moments layout tape moves) ≡ true = (and_parts (list_all (keeps_out layout) (turn_moments layout before m)) _ (sym (list_all-append (keeps_out layout) (turn_moments layout before m) (moments layout tape moves)) ∙ outs.1)).1 in
               reached_in moves rest more.0 (then_kept before.control here.control last more.1 kept) earlier
         ]

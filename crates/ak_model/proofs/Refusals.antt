@@ -4,7 +4,7 @@ use Rattle.std.specs.Prelude.{false}
 use Rattle.ak_core.specs.Layout.{Layout}
 use Rattle.ak_core.specs.declared.moves.Exit.{Exit}
 use Rattle.ak_core.specs.declared.moves.Move.{Move}
-use Rattle.ak_core.specs.declared.moves.Move.TheVariants.{SetPte, ReadPte, Eblock, Etrack, Ewb, Eldu, Eldb, Eremove, Epa, Discard, Eenter, Eresume, Run, Interrupt}
+use Rattle.ak_core.specs.declared.moves.Move.TheVariants.{ReadPte, Ewb, Eenter, Eresume, Run, Interrupt}
 use Rattle.ak_core.specs.declared.moves.Answer.{Answer}
 use Rattle.ak_core.specs.declared.moves.Answer.TheVariants.{Ok, OkHandle, Exit as ExitBy}
 use Rattle.ak_model.specs.History.{History, Change, Unchanged, change, if_ok, if_handle, if_exit}
@@ -34,33 +34,14 @@ stays_out _ before next h = refl
 
 -- no scan of the history sees it, since all look at changes alone
 pub change-refused : (m : Move) (a : Answer) → is_done a ≡ false → change m a ≡ Unchanged
-change-refused (SetPte p f flags) a h = not_ok a _ h
 change-refused (ReadPte p) a h = refl
-change-refused (Eblock f) a h = not_ok a _ h
-change-refused Etrack a h = not_ok a _ h
 change-refused (Ewb f va i) a h = not_handle a _ h
-change-refused (Eldu f k p va i) a h = not_ok a _ h
-change-refused (Eldb f k p va i) a h = not_ok a _ h
-change-refused (Eremove f) a h = not_ok a _ h
-change-refused (Epa f) a h = not_ok a _ h
-change-refused (Discard k) a h = not_ok a _ h
-change-refused (Eenter lp v) a h = not_ok a _ h
-change-refused (Eresume lp) a h = not_ok a _ h
 change-refused (Run lp n) a h = not_exit a _ h
-change-refused (Interrupt lp) a h = not_ok a _ h
+change-refused _ a h = not_ok a _ h
 
 pub control_after-refused : (layout : Layout) (past : History) (control : Control) (m : Move) (a : Answer) → is_done a ≡ false → control_after layout past control m a ≡ control
-control_after-refused layout past control (SetPte p f flags) a h = refl
-control_after-refused layout past control (ReadPte p) a h = refl
-control_after-refused layout past control (Eblock f) a h = refl
-control_after-refused layout past control Etrack a h = refl
-control_after-refused layout past control (Ewb f va i) a h = refl
-control_after-refused layout past control (Eldu f k p va i) a h = refl
-control_after-refused layout past control (Eldb f k p va i) a h = refl
-control_after-refused layout past control (Eremove f) a h = refl
-control_after-refused layout past control (Epa f) a h = refl
-control_after-refused layout past control (Discard k) a h = refl
 control_after-refused layout past control (Eenter lp v) a h = stays a control _ h
 control_after-refused layout past control (Eresume lp) a h = stays a control _ h
 control_after-refused layout past control (Run lp n) a h = stays_out a control _ h
 control_after-refused layout past control (Interrupt lp) a h = stays a control _ h
+control_after-refused layout past control _ a h = refl

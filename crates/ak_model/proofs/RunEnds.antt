@@ -20,6 +20,7 @@ use Rattle.ak_model.specs.Forced.{queue_by}
 use Rattle.ak_model.specs.Blamed.{is_guard}
 use Rattle.ak_model.specs.Honours.{is_finish_now}
 use Rattle.ak_model.specs.Orderly.{is_live, IsOrderly, TurnIsOrderly}
+use Rattle.ak_model.proofs.Tests.{either_way}
 use Rattle.ak_model.proofs.OrderlySteps.{ClustersFit}
 use Rattle.ak_model.proofs.OrderlyTurns.{turn_fits}
 use Rattle.ak_model.proofs.OrderlyTrace.{turn_more}
@@ -68,10 +69,6 @@ abbrev TurnSince : Control → Turn → Type 0
 TurnSince control (Goes next) = Since control next
 TurnSince control (Leaves exit next) = Unit {0}
 
-either : (control : Control) (b : Bool) (t u : Turn) → TurnSince control t → TurnSince control u → TurnSince control (if b then t else u)
-either control true t u h k = h
-either control false t u h k = k
-
 module _ (layout : Layout) (control : Control) where
   handled : (k : ℕ) (stack : List Saved) → TurnSince control (handle layout control k stack)
   handled k [] = tt
@@ -84,7 +81,7 @@ module _ (layout : Layout) (control : Control) where
       by_reason Denied = tt
       by_reason Broke = tt
       by_reason (Missed c) = tt
-      by_reason (Faulted t) = either control (k == 2) _ _ tt tt
+      by_reason (Faulted t) = either_way (TurnSince control) (k == 2) _ _ tt tt
 
   -- the program begins or goes on after a call
   begins : (next : Control) → next.stack ≡ control.stack → next.queue ≡ control.queue → next.cause ≡ control.cause → is_live control.phase ≡ true → is_asked next.phase ≡ false → is_guard next.now ≡ false → is_finish_now control.now ≡ false → Since control next
@@ -185,7 +182,7 @@ module _ (layout : Layout) (control : Control) where
   event_since (Some (Call i b a)) n = called b a _ _ n
   event_since (Some (Miss i c)) n = tt
   event_since (Some (Break i)) n = tt
-  event_since (Some (Trap i v)) n = either control (v == 14) (leave_program (shown_fault layout) Denied control) (leave_program (Exit.Vector v) (Raised v) control) tt tt
+  event_since (Some (Trap i v)) n = either_way (TurnSince control) (v == 14) (leave_program (shown_fault layout) Denied control) (leave_program (Exit.Vector v) (Raised v) control) tt tt
 
   turn_by : (past : History) (now : Option Context) → control.now ≡ now → TurnSince control (turn_of layout past control now)
   turn_by past None n = since_start control

@@ -1,38 +1,20 @@
 -- Who is inside after a move, and what an answer to entering says of it.
-use Rattle.std.proofs.Common.{◌≡◌, ℕ, zero, suc, ◌+◌, ◌<◌, ◌≤◌, List, [], ◌∷◌, length, arith, refl, sym, subst}
-use Rattle.std.specs.Prelude.{Bool, true, false, not, ◌&&◌, ◌||◌, if◌then◌else◌, is_some, nat_lt, ◌==◌}
-use Rattle.std.specs.List.{range_with_len, list_any}
-use Rattle.std.proofs.lemmas.Bool.{or_parts, or_from, eq-eqb, eqb-true, eqb-false, ltb-true, not-false}
+use Rattle.std.proofs.Common.{◌≡◌, ℕ, ◌+◌, ◌<◌, List, [], ◌∷◌, length, arith, refl, sym, subst}
+use Rattle.std.specs.Prelude.{Bool, true, false, not, ◌&&◌, if◌then◌else◌, is_some, nat_lt, ◌==◌}
+use Rattle.std.specs.List.{list_any}
+use Rattle.std.proofs.lemmas.Bool.{or_parts, or_from, eq-eqb, eqb-true, ltb-true, not-false}
 use Rattle.ak_core.specs.Layout.{Layout}
 use Rattle.ak_core.specs.declared.moves.Answer.{Answer}
-use Rattle.ak_core.specs.declared.moves.Answer.TheVariants.{Ok, OkHandle, NoLp, Inside, TcsFault, Busy}
-use Rattle.ak_model.specs.History.{History, Change, Unchanged, Maps, Blocks, Cycles, WritesOut, Loads, Removes, MakesVa, Discards, Enters, Resumes, Exits, Interrupts, if_ok, if_handle}
+use Rattle.ak_core.specs.declared.moves.Answer.TheVariants.{Ok, NoLp, Inside, TcsFault, Busy}
+use Rattle.ak_model.specs.History.{History, Change, Enters, Resumes}
 use Rattle.ak_model.specs.Inside.{since, since_after, inside, processors, someone_inside, another_inside}
 use Rattle.ak_model.specs.Answers.{finds_tcs, if_outside}
+use Rattle.ak_model.proofs.Tests.{any_in_range}
 
 -- the answer is none of the first check's, so that check did not hold
 pub other : (b : Bool) (x y z : Answer) → (x ≡ z → ⊥) → (if b then x else y) ≡ z → (b ≡ false) × (y ≡ z)
 other true x y z ne h = absurd (ne h)
 other false x y z ne h = (refl, h)
-
-or_first : (a b : Bool) → a ≡ true → (a || b) ≡ true
-or_first true b e = refl
-or_first false b e = absurd (cc)
-
-or_second : (a b : Bool) → b ≡ true → (a || b) ≡ true
-or_second true b e = refl
-or_second false b e = e
-
-any_by : (test : ℕ → Bool) (n a x : ℕ) (b : Bool) → (a == x) ≡ b → a ≤ x → x < a + suc n → test x ≡ true → (a + 1 ≤ x → x < a + 1 + n → list_any test (range_with_len (a + 1) n) ≡ true) → (test a || list_any test (range_with_len (a + 1) n)) ≡ true
-any_by test n a x true e low high h later =
-    or_first (test a) (list_any test (range_with_len (a + 1) n)) (subst (λ y. test y ≡ true) (sym (eqb-true a x e)) h)
-any_by test n a x false e low high h later =
-    let differ = eqb-false a x e in or_second (test a) _ (later (omega arith) (omega arith))
-
--- one of a range passes a test
-pub any_at : (test : ℕ → Bool) (n a x : ℕ) → a ≤ x → x < a + n → test x ≡ true → list_any test (range_with_len a n) ≡ true
-any_at test zero a x low high h = absurd (omega arith)
-any_at test (suc n) a x low high h = any_by test n a x (a == x) refl low high h (λ l g. any_at test n (a + 1) x l g h)
 
 module _ (layout : Layout) where
   -- somebody is inside after one more change
@@ -42,16 +24,16 @@ module _ (layout : Layout) where
   pub entered_someone : (past : History) (lp v : ℕ) → lp < layout.lps → someone_after past (Enters lp v) ≡ true
   entered_someone past lp v h =
       let same : (lp == lp) ≡ true = eq-eqb lp lp refl in
-      any_at (λ q. is_some (since_after (Enters lp v) q (length past + 1) (since past q))) layout.lps 0 lp (omega arith) (omega arith) (rw same refl)
+      any_in_range (λ q. is_some (since_after (Enters lp v) q (length past + 1) (since past q))) layout.lps 0 lp (omega arith) (omega arith) (rw same refl)
 
   pub resumed_someone : (past : History) (lp : ℕ) → lp < layout.lps → someone_after past (Resumes lp) ≡ true
   resumed_someone past lp h =
       let same : (lp == lp) ≡ true = eq-eqb lp lp refl in
-      any_at (λ q. is_some (since_after (Resumes lp) q (length past + 1) (since past q))) layout.lps 0 lp (omega arith) (omega arith) (rw same refl)
+      any_in_range (λ q. is_some (since_after (Resumes lp) q (length past + 1) (since past q))) layout.lps 0 lp (omega arith) (omega arith) (rw same refl)
 
   -- a processor of the layout that is inside is somebody
   pub is_someone : (past : History) (lp : ℕ) → lp < layout.lps → inside past lp ≡ true → someone_inside layout past ≡ true
-  is_someone past lp low h = any_at (inside past) layout.lps 0 lp (omega arith) (omega arith) h
+  is_someone past lp low h = any_in_range (inside past) layout.lps 0 lp (omega arith) (omega arith) h
 
   -- ---- Who is inside where entering is answered Ok
 
@@ -77,35 +59,3 @@ module _ (layout : Layout) where
       let y = other (not (finds_tcs layout past)) TcsFault _ Ok (λ e. cc) x.1 in
       let z = other (another_inside layout past lp) Busy _ Ok (λ e. cc) y.1 in
       (ltb-true lp layout.lps (not-false (nat_lt lp layout.lps) w.0), none_of past lp (processors layout) x.0 z.0, z.1)
-
-  -- ---- Changes by which nobody enters or leaves
-
-  abbrev pub IsQuiet : Change → Type 0
-  IsQuiet (Enters lp v) = ⊥
-  IsQuiet (Resumes lp) = ⊥
-  IsQuiet (Exits lp exit) = ⊥
-  IsQuiet (Interrupts lp) = ⊥
-  IsQuiet _ = Unit {0}
-
-  pub quiet_someone : (past : History) (c : Change) → IsQuiet c → someone_after past c ≡ someone_inside layout past
-  quiet_someone past Unchanged q = refl
-  quiet_someone past (Maps p f flags) q = refl
-  quiet_someone past (Blocks f) q = refl
-  quiet_someone past Cycles q = refl
-  quiet_someone past (WritesOut f va i k) q = refl
-  quiet_someone past (Loads f k p va i blocked) q = refl
-  quiet_someone past (Removes f) q = refl
-  quiet_someone past (MakesVa f) q = refl
-  quiet_someone past (Discards k) q = refl
-  quiet_someone past (Enters lp v) q = absurd q
-  quiet_someone past (Resumes lp) q = absurd q
-  quiet_someone past (Exits lp exit) q = absurd q
-  quiet_someone past (Interrupts lp) q = absurd q
-
-  pub quiet_ok : (a : Answer) (c : Change) → IsQuiet c → IsQuiet (if_ok a c)
-  quiet_ok Ok c q = q
-  quiet_ok _ c q = tt
-
-  pub quiet_handle : (a : Answer) (c : ℕ → Change) → ((k : ℕ) → IsQuiet (c k)) → IsQuiet (if_handle a c)
-  quiet_handle (OkHandle k) c q = q k.0
-  quiet_handle _ c q = tt

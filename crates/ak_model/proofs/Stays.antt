@@ -1,6 +1,6 @@
 -- While a processor stays inside, no cluster comes in or leaves, and one that is asked for stays so.
 use Rattle.std.proofs.Common.{◌≡◌, ℕ, zero, suc, ◌+◌, ◌≤◌, List, [], ◌∷◌, ◌++◌, length, arith, refl, ap, ◌∙◌}
-use Rattle.std.specs.Prelude.{Bool, true, false, not, if◌then◌else◌, Option, Some, None, is_some, nat_lt, ◌==◌}
+use Rattle.std.specs.Prelude.{Bool, true, false, if◌then◌else◌, Option, Some, None, is_some, nat_lt, ◌==◌}
 use Rattle.std.proofs.lemmas.Bool.{eqb-false}
 use Rattle.ak_core.specs.Layout.{Layout}
 use Rattle.ak_core.specs.Mem.{Touch}
@@ -9,21 +9,18 @@ use Rattle.ak_core.specs.declared.moves.Exit.TheVariants.{Still}
 use Rattle.ak_core.specs.declared.event.Event.{Event}
 use Rattle.ak_core.specs.declared.event.Event.TheVariants.{Call, Miss, Trap, Break}
 use Rattle.ak_core.specs.declared.moves.Move.{Move}
-use Rattle.ak_core.specs.declared.moves.Move.TheVariants.{SetPte, ReadPte, Eblock, Etrack, Ewb, Eldu, Eldb, Eremove, Epa, Discard, Eenter, Eresume, Run, Interrupt}
-use Rattle.ak_core.specs.declared.moves.Answer.{Answer}
-use Rattle.ak_core.specs.declared.moves.Answer.TheVariants.{Ok, NoLp, Outside}
-use Rattle.ak_model.specs.History.{History, Change, Unchanged, Maps, Blocks, Cycles, WritesOut, Loads, Removes, MakesVa, Discards, Enters, Resumes, Exits, Interrupts, if_ok, if_handle, if_left, if_exit}
-use Rattle.ak_model.specs.Inside.{since, since_after, inside}
+use Rattle.ak_model.specs.History.{History, Exits, if_left}
+use Rattle.ak_model.specs.Inside.{since, inside}
 use Rattle.ak_model.specs.Control.{Phase, New, Running, Calling, Asked, Ended, Trapped, Dead, Context, Program, Entry, Probe, Finish, Guard, Leave, Reason, Interrupted, Cleared, Raised, Denied, Missed, Broke, Faulted, Saved, Control, is_asked}
 use Rattle.ak_model.specs.RuntimeStep.{touches, step_fault, handle, enter, finish, resume_guard, effect, unless_fault}
 use Rattle.ak_model.specs.ProgramStep.{due, event_turn}
 use Rattle.ak_model.specs.Turn.{Turn, Goes, Leaves}
 use Rattle.ak_model.specs.Turns.{turn_of, turn, Ran, go_on, run}
-use Rattle.ak_model.specs.Answers.{answer}
-use Rattle.ak_model.specs.Entering.{entered, resumed_by, interrupted_by, on_ok, on_exit}
+use Rattle.ak_model.specs.Entering.{interrupted_by}
 use Rattle.ak_model.specs.Trace.{Moment, step}
 use Rattle.ak_model.specs.Presence.{IsPresent}
-use Rattle.ak_model.proofs.Someone.{IsQuiet, quiet_ok, quiet_handle}
+use Rattle.ak_model.proofs.Tests.{either_way}
+use Rattle.ak_model.proofs.Moved.{Reading, reading, each_move}
 
 -- the same clusters are in, and one that is asked for stays so
 pub record Kept (before next : Control) : Type 0 where
@@ -42,17 +39,13 @@ TurnKeeps control (Goes next) = Kept control next
 TurnKeeps control (Leaves exit next) = exit ≡ Still → ⊥
 
 module _ (layout : Layout) where
-  if_keeps : (b : Bool) (control : Control) (t u : Turn) → TurnKeeps control t → TurnKeeps control u → TurnKeeps control (if b then t else u)
-  if_keeps true control t u h k = h
-  if_keeps false control t u h k = k
-
   begins : (control : Control) (phase : Phase) (returned : List ℕ) → control.phase ≡ phase → is_asked phase ≡ false → Kept control (record control { phase = Running; now = Some Program; returned = returned })
   begins control phase returned e a = record { queue = refl; asked = λ c h. absurd (let x = ap is_asked h in let y = ap is_asked e in cc) }
 
   by_reason : (control : Control) (k : ℕ) (inner : Context) (reason : Reason) (older : List Saved) → TurnKeeps control (handle layout control k (record { context = inner; reason = reason } ∷ older))
   by_reason control k inner Interrupted older = λ x. cc
   by_reason control k inner Cleared older = λ x. cc
-  by_reason control k inner (Faulted t) older = if_keeps (k == 2) control _ _ (λ x. cc) (λ x. cc)
+  by_reason control k inner (Faulted t) older = either_way (TurnKeeps control) (k == 2) _ _ (λ x. cc) (λ x. cc)
   by_reason control k inner (Raised v) older = λ x. cc
   by_reason control k inner Denied older = λ x. cc
   by_reason control k inner Broke older = λ x. cc
@@ -112,7 +105,7 @@ module _ (layout : Layout) where
   events control (Some (Call i b a)) = record { queue = refl; asked = λ d h. h }
   events control (Some (Miss i c)) = λ x. cc
   events control (Some (Break i)) = λ x. cc
-  events control (Some (Trap i v)) = if_keeps (v == 14) control _ _ (λ x. cc) (λ x. cc)
+  events control (Some (Trap i v)) = either_way (TurnKeeps control) (v == 14) _ _ (λ x. cc) (λ x. cc)
 
   pub turns : (past : History) (control : Control) (now : Option Context) → TurnKeeps control (turn_of layout past control now)
   turns past control None = same control
@@ -136,23 +129,8 @@ module _ (layout : Layout) where
   -- ---- A move
 
   module _ (lp place : ℕ) (past : History) (before : place ≤ length past) where
-    abbrev Stays : Change → Control → Control → Type 0
-    Stays c control next = since_after c lp (length past + 1) (since past lp) ≡ Some place → (since past lp ≡ Some place) × Kept control next
-
-    quiet : (c : Change) (control : Control) → IsQuiet layout c → Stays c control control
-    quiet Unchanged control q h = (h, same control)
-    quiet (Maps p f flags) control q h = (h, same control)
-    quiet (Blocks f) control q h = (h, same control)
-    quiet Cycles control q h = (h, same control)
-    quiet (WritesOut f va i k) control q h = (h, same control)
-    quiet (Loads f k p va i blocked) control q h = (h, same control)
-    quiet (Removes f) control q h = (h, same control)
-    quiet (MakesVa f) control q h = (h, same control)
-    quiet (Discards k) control q h = (h, same control)
-    quiet (Enters q' v) control q h = absurd q
-    quiet (Resumes q') control q h = absurd q
-    quiet (Exits q' exit) control q h = absurd q
-    quiet (Interrupts q') control q h = absurd q
+    abbrev Stays : Reading → Control → Control → Type 0
+    Stays change control next = change.since lp (length past + 1) (since past lp) ≡ Some place → (since past lp ≡ Some place) × Kept control next
 
     new_place : (b : Bool) → (if b then Some (length past + 1) else since past lp) ≡ Some place → since past lp ≡ Some place
     new_place true h = absurd (let e : length past + 1 ≡ place = cc in omega arith)
@@ -162,55 +140,31 @@ module _ (layout : Layout) where
     no_place true h = absurd (cc)
     no_place false h = (refl, h)
 
-    enter_stays : (control : Control) (q v : ℕ) (a : Answer) → Stays (if_ok a (Enters q v)) control (on_ok a control (entered control v))
-    enter_stays control q v Ok h = (new_place (lp == q) h, record { queue = refl; asked = λ c e. e })
-    enter_stays control q v _ h = (h, same control)
-
-    resumed : (control : Control) (stack : List Saved) → Kept control (resumed_by control stack)
-    resumed control [] = same control
-    resumed control (saved ∷ older) = record { queue = refl; asked = λ c e. e }
-
-    resume_stays : (control : Control) (q : ℕ) (a : Answer) → Stays (if_ok a (Resumes q)) control (on_ok a control (resumed_by control control.stack))
-    resume_stays control q Ok h = (new_place (lp == q) h, resumed control control.stack)
-    resume_stays control q _ h = (h, same control)
-
     interrupted : (control : Control) (now : Option Context) → Kept control (interrupted_by control now)
     interrupted control None = same control
     interrupted control (Some context) = record { queue = refl; asked = λ c e. e }
 
-    interrupt_stays : (control : Control) (q : ℕ) (a : Answer) → Stays (if_ok a (Interrupts q)) control (on_ok a control (interrupted_by control control.now))
-    interrupt_stays control q Ok h = ((no_place (lp == q) h).1, interrupted control control.now)
-    interrupt_stays control q _ h = (h, same control)
-
     -- another processor isn't inside, so it can't leave
-    left_stays : (control next : Control) (q : ℕ) (exit : Exit) → (inside past lp ≡ true → lp ≡ q) → Stays (Exits q exit) control next
+    left_stays : (control next : Control) (q : ℕ) (exit : Exit) → (inside past lp ≡ true → lp ≡ q) → Stays (reading (Exits q exit)) control next
     left_stays control next q exit alone h =
         let other = no_place (lp == q) h in
         absurd (eqb-false lp q other.0 (alone (ap is_some other.1)))
 
-    ran_stays : (control : Control) (q : ℕ) (ran : Ran) (exit : Exit) → ran.exit ≡ exit → (ran.exit ≡ Still → Kept control ran.control) → (inside past lp ≡ true → lp ≡ q) → Stays (if_left exit (Exits q exit)) control ran.control
+    ran_stays : (control : Control) (q : ℕ) (ran : Ran) (exit : Exit) → ran.exit ≡ exit → (ran.exit ≡ Still → Kept control ran.control) → (inside past lp ≡ true → lp ≡ q) → Stays (reading (if_left exit (Exits q exit))) control ran.control
     ran_stays control q ran Still e kept alone h = (h, kept e)
     ran_stays control q ran exit e kept alone h = left_stays control ran.control q exit alone h
 
-    run_stays : (control : Control) (q n : ℕ) (there within : Bool) → inside past q ≡ within → (inside past lp ≡ true → inside past q ≡ true → lp ≡ q) → (let a = if not there then NoLp else (if not within then Outside else Answer.Exit (run layout past n control).exit) in Stays (if_exit a (λ exit. Exits q exit)) control (on_exit a control (run layout past n control).control))
-    run_stays control q n false within d alone h = (h, same control)
-    run_stays control q n true false d alone h = (h, same control)
-    run_stays control q n true true d alone h = ran_stays control q (run layout past n control) (run layout past n control).exit refl (run_kept past n control) (λ i. alone i d) h
-
   -- one more move, after which the processor is inside since this place
-  pub step_stays : (moment : Moment) (m : Move) (lp place : ℕ) → IsPresent layout moment → place ≤ length moment.past → since (step layout moment m).past lp ≡ Some place → (since moment.past lp ≡ Some place) × Kept moment.control (step layout moment m).control
-  step_stays moment (SetPte p f flags) lp place at low h = quiet lp place moment.past low (if_ok (answer layout moment.past moment.control (SetPte p f flags)) _) moment.control (quiet_ok layout (answer layout moment.past moment.control (SetPte p f flags)) _ tt) h
-  step_stays moment (ReadPte p) lp place at low h = (h, same moment.control)
-  step_stays moment (Eblock f) lp place at low h = quiet lp place moment.past low (if_ok (answer layout moment.past moment.control (Eblock f)) _) moment.control (quiet_ok layout (answer layout moment.past moment.control (Eblock f)) _ tt) h
-  step_stays moment Etrack lp place at low h = quiet lp place moment.past low (if_ok (answer layout moment.past moment.control Etrack) _) moment.control (quiet_ok layout (answer layout moment.past moment.control Etrack) _ tt) h
-  step_stays moment (Ewb f va i) lp place at low h = quiet lp place moment.past low (if_handle (answer layout moment.past moment.control (Ewb f va i)) _) moment.control (quiet_handle layout (answer layout moment.past moment.control (Ewb f va i)) _ (λ k. tt)) h
-  step_stays moment (Eldu f k p va i) lp place at low h = quiet lp place moment.past low (if_ok (answer layout moment.past moment.control (Eldu f k p va i)) _) moment.control (quiet_ok layout (answer layout moment.past moment.control (Eldu f k p va i)) _ tt) h
-  step_stays moment (Eldb f k p va i) lp place at low h = quiet lp place moment.past low (if_ok (answer layout moment.past moment.control (Eldb f k p va i)) _) moment.control (quiet_ok layout (answer layout moment.past moment.control (Eldb f k p va i)) _ tt) h
-  step_stays moment (Eremove f) lp place at low h = quiet lp place moment.past low (if_ok (answer layout moment.past moment.control (Eremove f)) _) moment.control (quiet_ok layout (answer layout moment.past moment.control (Eremove f)) _ tt) h
-  step_stays moment (Epa f) lp place at low h = quiet lp place moment.past low (if_ok (answer layout moment.past moment.control (Epa f)) _) moment.control (quiet_ok layout (answer layout moment.past moment.control (Epa f)) _ tt) h
-  step_stays moment (Discard k) lp place at low h = quiet lp place moment.past low (if_ok (answer layout moment.past moment.control (Discard k)) _) moment.control (quiet_ok layout (answer layout moment.past moment.control (Discard k)) _ tt) h
-  step_stays moment (Eenter q v) lp place at low h = enter_stays lp place moment.past low moment.control q.0 v (answer layout moment.past moment.control (Eenter q v)) h
-  step_stays moment (Eresume q) lp place at low h = resume_stays lp place moment.past low moment.control q.0 (answer layout moment.past moment.control (Eresume q)) h
-  step_stays moment (Run q n) lp place at low h =
-      run_stays lp place moment.past low moment.control q.0 n (nat_lt q.0 layout.lps) (inside moment.past q.0) refl (λ i j. at.alone lp q.0 i j) h
-  step_stays moment (Interrupt q) lp place at low h = interrupt_stays lp place moment.past low moment.control q.0 (answer layout moment.past moment.control (Interrupt q)) h
+  pub step_stays : (moment : Moment) (m : Move) (lp place : ℕ) → ((q : ℕ) → inside moment.past q ≡ true → nat_lt q layout.lps ≡ true) → IsPresent layout moment → place ≤ length moment.past → since (step layout moment m).past lp ≡ Some place → (since moment.past lp ≡ Some place) × Kept moment.control (step layout moment m).control
+  step_stays moment m lp place known at low =
+      let past : History = moment.past in
+      let control : Control = moment.control in
+      each_move layout moment (λ e. Stays lp place past low e.change control e.next)
+      (record {
+        quiet = λ h. (h, same control);
+        enters = λ q v there out few h. (new_place lp place past low (lp == q) h, record { queue = refl; asked = λ c e. e });
+        resumes = λ q saved rest there out free e h. (new_place lp place past low (lp == q) h, record { queue = refl; asked = λ c x. x });
+        interrupts = λ q d h. ((no_place lp place past low (lp == q) h).1, interrupted lp place past low control control.now);
+        runs = λ q n d someone. ran_stays lp place past low control q (run layout past n control) (run layout past n control).exit refl (run_kept past n control) (λ i. at.alone lp q i d);
+      })
+      known m

@@ -7,14 +7,11 @@ use Rattle.std.proofs.lemmas.Bool.{eqb-true, eq-eqb, ltb-true, leb-true, and_par
 use Rattle.ak_core.specs.Layout.{Layout}
 use Rattle.ak_core.specs.Mem.{Touch}
 use Rattle.ak_core.specs.declared.event.Event.{Event}
-use Rattle.ak_core.specs.declared.moves.Exit.{Exit}
-use Rattle.ak_core.specs.declared.moves.Exit.TheVariants.{Still}
 use Rattle.ak_core.specs.declared.page.Handle.{Handle}
 use Rattle.ak_core.specs.declared.moves.Move.{Move}
-use Rattle.ak_core.specs.declared.moves.Move.TheVariants.{SetPte, ReadPte, Eblock, Etrack, Ewb, Eldu, Eldb, Eremove, Epa, Discard, Eenter, Eresume, Run, Interrupt}
-use Rattle.ak_core.specs.declared.moves.Answer.{Answer}
-use Rattle.ak_core.specs.declared.moves.Answer.TheVariants.{Ok, OkHandle, Exit as ExitBy, NotBlocked, NotTracked}
-use Rattle.ak_model.specs.History.{History, Change, Unchanged, Maps, Blocks, Cycles, WritesOut, Loads, Removes, MakesVa, Discards, Enters, Resumes, Exits, Interrupts, change, if_ok, if_handle, if_exit, if_left}
+use Rattle.ak_core.specs.declared.moves.Move.TheVariants.{ReadPte, Ewb, Eldu, Eldb, Eremove, Epa, Run}
+use Rattle.ak_core.specs.declared.moves.Answer.TheVariants.{Ok, OkHandle, NotBlocked, NotTracked}
+use Rattle.ak_model.specs.History.{History, Change, Blocks, Cycles, WritesOut, Loads, Removes, MakesVa, Enters, Resumes, Exits, Interrupts, change}
 use Rattle.ak_model.specs.Holdings.{Held, FreeFrame, SecsFrame, VaFrame, PageFrame, holds}
 use Rattle.ak_model.specs.Frames.{held, held_after, blocks_first, blocked_at, blocked_after}
 use Rattle.ak_model.specs.Inside.{since, since_after, inside, processors, someone_inside}
@@ -28,9 +25,11 @@ use Rattle.ak_model.specs.Queue.{is_in}
 use Rattle.ak_model.specs.Control.{Control}
 use Rattle.ak_model.specs.Answers.{answer, write_out_answer, remove_by}
 use Rattle.ak_model.specs.Trace.{trace}
+use Rattle.ak_model.proofs.Tests.{any_in_range, or_other}
+use Rattle.ak_model.proofs.Changes.{ok_holds, handle_holds, exit_holds}
 use Rattle.ak_model.proofs.Cycling.{cycles-wait}
 use Rattle.ak_model.proofs.OneCopy.{frame_ok, load_fair, page_if, va_fair}
-use Rattle.ak_model.proofs.Someone.{other, any_at, is_someone}
+use Rattle.ak_model.proofs.Someone.{other, is_someone}
 use Rattle.ak_model.proofs.Placed.{placed}
 
 -- ---- What an answer says of the change
@@ -58,37 +57,15 @@ module _ (layout : Layout) where
   removed_by true VaFrame p h e = absurd (cc)
   removed_by true (PageFrame q) p h e = absurd (cc)
 
-  ok_fair : (past : History) (a : Answer) (c : Change) → (a ≡ Ok → Fair past c) → Fair past (if_ok a c)
-  ok_fair past Ok c h = h refl
-  ok_fair past _ c h = tt
-
-  handle_fair : (past : History) (a : Answer) (c : ℕ → Change) → ((k : Handle) → a ≡ OkHandle k → Fair past (c k.0)) → Fair past (if_handle a c)
-  handle_fair past (OkHandle k) c h = h k refl
-  handle_fair past _ c h = tt
-
-  left_fair : (past : History) (exit : Exit) (lp : ℕ) → Fair past (if_left exit (Exits lp exit))
-  left_fair past Still lp = tt
-  left_fair past _ lp = tt
-
-  exit_fair : (past : History) (a : Answer) (lp : ℕ) → Fair past (if_exit a (λ exit. Exits lp exit))
-  exit_fair past (ExitBy exit) lp = left_fair past exit lp
-  exit_fair past _ lp = tt
-
   fair : (past : History) (control : Control) (m : Move) → Fair past (change m (answer layout past control m))
-  fair past control (SetPte p f flags) = ok_fair past (answer layout past control (SetPte p f flags)) _ (λ h. tt)
   fair past control (ReadPte p) = tt
-  fair past control (Eblock f) = ok_fair past (answer layout past control (Eblock f)) _ (λ h. tt)
-  fair past control Etrack = ok_fair past (answer layout past control Etrack) _ (λ h. tt)
-  fair past control (Ewb f va i) = handle_fair past (answer layout past control (Ewb f va i)) _ (out_fair past f.0 va.0 i)
-  fair past control (Eldu f k p va i) = ok_fair past (answer layout past control (Eldu f k p va i)) _ (λ h. (load_fair layout past f.0 k.0 p.0 va.0 i false h).0)
-  fair past control (Eldb f k p va i) = ok_fair past (answer layout past control (Eldb f k p va i)) _ (λ h. (load_fair layout past f.0 k.0 p.0 va.0 i true h).0)
-  fair past control (Eremove f) = ok_fair past (answer layout past control (Eremove f)) _ (λ h p e. removed_by (someone_inside layout past) (held layout past f.0) p (frame_ok layout f.0 _ Ok (λ x. cc) (λ x. cc) h) e)
-  fair past control (Epa f) = ok_fair past (answer layout past control (Epa f)) _ (va_fair layout past f.0)
-  fair past control (Discard k) = ok_fair past (answer layout past control (Discard k)) _ (λ h. tt)
-  fair past control (Eenter lp v) = ok_fair past (answer layout past control (Eenter lp v)) _ (λ h. tt)
-  fair past control (Eresume lp) = ok_fair past (answer layout past control (Eresume lp)) _ (λ h. tt)
-  fair past control (Run lp n) = exit_fair past (answer layout past control (Run lp n)) lp.0
-  fair past control (Interrupt lp) = ok_fair past (answer layout past control (Interrupt lp)) _ (λ h. tt)
+  fair past control (Ewb f va i) = handle_holds (Fair past) tt (answer layout past control (Ewb f va i)) _ (out_fair past f.0 va.0 i)
+  fair past control (Eldu f k p va i) = ok_holds (Fair past) tt (answer layout past control (Eldu f k p va i)) _ (λ h. (load_fair layout past f.0 k.0 p.0 va.0 i false h).0)
+  fair past control (Eldb f k p va i) = ok_holds (Fair past) tt (answer layout past control (Eldb f k p va i)) _ (λ h. (load_fair layout past f.0 k.0 p.0 va.0 i true h).0)
+  fair past control (Eremove f) = ok_holds (Fair past) tt (answer layout past control (Eremove f)) _ (λ h p e. removed_by (someone_inside layout past) (held layout past f.0) p (frame_ok layout f.0 _ Ok (λ x. cc) (λ x. cc) h) e)
+  fair past control (Epa f) = ok_holds (Fair past) tt (answer layout past control (Epa f)) _ (va_fair layout past f.0)
+  fair past control (Run lp n) = exit_holds (Fair past) tt (answer layout past control (Run lp n)) (λ exit. Exits lp.0 exit) (λ exit. tt)
+  fair past control m = ok_holds (Fair past) tt (answer layout past control m) _ (λ h. tt)
 
 -- ---- Cycles that wait for the processor
 
@@ -126,15 +103,11 @@ module _ (lp : ℕ) where
   early layout past [] h = tt
   early layout past (cycle ∷ older) h = ((λ l. absurd (let high = h.0.high in omega arith)), early layout past older h.1)
 
-  second : (a b : Bool) → a ≡ false → (a || b) ≡ true → b ≡ true
-  second true b e h = absurd (cc)
-  second false b e h = h
-
   kept_by : (test : ℕ → Bool) (q : ℕ) (rest : List ℕ) (same b : Bool) → (q == lp) ≡ same → test q ≡ b → test lp ≡ true → (is_in rest lp ≡ true → is_in (filter test rest) lp ≡ true) → is_in (q ∷ rest) lp ≡ true → is_in (cond b (q ∷ filter test rest) (filter test rest)) lp ≡ true
   kept_by test q rest true true e t h later here = or_left (q == lp) _ e
   kept_by test q rest true false e t h later here = absurd (let x = subst (λ y. test y ≡ true) (sym (eqb-true q lp e)) h in cc)
-  kept_by test q rest false true e t h later here = or_right (q == lp) _ (later (second (q == lp) (is_in rest lp) e here))
-  kept_by test q rest false false e t h later here = later (second (q == lp) (is_in rest lp) e here)
+  kept_by test q rest false true e t h later here = or_right (q == lp) _ (later (or_other (q == lp) (is_in rest lp) e here))
+  kept_by test q rest false false e t h later here = later (or_other (q == lp) (is_in rest lp) e here)
 
   kept : (test : ℕ → Bool) (all : List ℕ) → test lp ≡ true → is_in all lp ≡ true → is_in (filter test all) lp ≡ true
   kept test [] t h = h
@@ -190,26 +163,22 @@ module _ (layout : Layout) (lp f p : ℕ) where
     new_waits : is_in (filter (inside past) (processors layout)) lp ≡ true
     new_waits =
         let same : (lp == lp) ≡ true = eq-eqb lp lp refl in
-        kept lp (inside past) (processors layout) within (any_at (λ q. q == lp) layout.lps 0 lp (omega arith) (omega arith) same)
+        kept lp (inside past) (processors layout) within (any_in_range (λ q. q == lp) layout.lps 0 lp (omega arith) (omega arith) same)
 
     cycled : (blocked : Option ℕ) → IfBlocked lp blocked (cycles layout past) → IfBlocked lp blocked (cycles_after layout past Cycles (cycles layout past))
     cycled None h = tt
     cycled (Some place) h = ((λ l. new_waits), h)
 
     pub one_more : (c : Change) → Fair layout past c → leaves c lp ≡ false → After past c
-    one_more Unchanged fair stays = old
-    one_more (Maps q g flags) fair stays = old
     one_more (Blocks g) fair stays = blocks g (f == g)
     one_more Cycles fair stays = (old.0, cycled (blocked_at past f) old.1)
     one_more (WritesOut g va i k) fair stays = differs g 0 _ _ (f == g) refl (not_tracked g fair)
     one_more (Loads g k q va i blocked) fair stays = differs g 0 _ _ (f == g) refl (not_free g fair)
     one_more (Removes g) fair stays = differs g 0 _ _ (f == g) refl (not_removed g fair)
     one_more (MakesVa g) fair stays = differs g 0 _ _ (f == g) refl (not_free g fair)
-    one_more (Discards k) fair stays = old
-    one_more (Enters q v) fair stays = old
-    one_more (Resumes q) fair stays = old
     one_more (Exits q exit) fair stays = (old.0, left_if lp q stays (blocked_at past f) (cycles layout past) old.1)
     one_more (Interrupts q) fair stays = (old.0, left_if lp q stays (blocked_at past f) (cycles layout past) old.1)
+    one_more _ fair stays = old
 
 -- ---- Since the entering
 
@@ -227,15 +196,7 @@ since_older (Enters q v) lp entered place before l h = (older_by (lp == q) enter
 since_older (Resumes q) lp entered place before l h = (older_by (lp == q) entered place before l h, refl)
 since_older (Exits q exit) lp entered place before l h = stayed_by (lp == q) entered before h
 since_older (Interrupts q) lp entered place before l h = stayed_by (lp == q) entered before h
-since_older Unchanged lp entered place before l h = (h, refl)
-since_older (Maps p f flags) lp entered place before l h = (h, refl)
-since_older (Blocks f) lp entered place before l h = (h, refl)
-since_older Cycles lp entered place before l h = (h, refl)
-since_older (WritesOut f va i k) lp entered place before l h = (h, refl)
-since_older (Loads f k p va i b) lp entered place before l h = (h, refl)
-since_older (Removes f) lp entered place before l h = (h, refl)
-since_older (MakesVa f) lp entered place before l h = (h, refl)
-since_older (Discards k) lp entered place before l h = (h, refl)
+since_older _ lp entered place before l h = (h, refl)
 
 module _ (layout : Layout) (tape : List Event) (lp entered f p : ℕ) where
   unblocked : (past : History) → blocked_at past f ≡ None → IfBlocked lp (blocked_at past f) (cycles layout past)

@@ -7,10 +7,10 @@ use Rattle.ak_core.specs.declared.event.Event.{Event}
 use Rattle.ak_core.specs.declared.event.StopCause.TheVariants.{Unmapped, RuntimeUnmapped, FetchNotHonoured, ResumedEarly, Stuck}
 use Rattle.ak_core.specs.declared.moves.Move.{Move}
 use Rattle.ak_model.specs.Build.{queue_at_build}
-use Rattle.ak_model.specs.History.{History, Change}
+use Rattle.ak_model.specs.History.{History}
 use Rattle.ak_model.specs.Inside.{someone_inside}
-use Rattle.ak_model.specs.Control.{Context, Cause, Broken, Named, Control, is_asked}
-use Rattle.ak_model.specs.Entering.{interrupted_by}
+use Rattle.ak_model.specs.Control.{Cause, Broken, Named, Control, is_asked}
+use Rattle.ak_model.specs.Entering.{entered, resumed_by, interrupted_by}
 use Rattle.ak_model.specs.Trace.{trace}
 use Rattle.ak_model.specs.ProgramTurns.{program_turns}
 use Rattle.ak_model.specs.Premises.{MissesFit}
@@ -21,21 +21,20 @@ use Rattle.ak_model.proofs.ValidClusters.{clusters_fit}
 use Rattle.ak_model.proofs.Orderly.{trace_is_orderly}
 use Rattle.ak_model.proofs.RunEnds.{Since}
 use Rattle.ak_model.proofs.LeftTurns.{StopBy}
-use Rattle.ak_model.proofs.Did.{Did, Quietly, Entered, Resumed, Interrupted, Went, Exited, did}
+use Rattle.ak_model.proofs.Moved.{Reading, reading, interrupted_same}
+use Rattle.ak_model.proofs.Did.{Holds, did}
 
 module _ (layout : Layout) (past : History) (control : Control) where
-  interrupted_cause : (now : Option Context) → (interrupted_by control now).cause ≡ control.cause
-  interrupted_cause None = refl
-  interrupted_cause (Some context) = refl
-
   -- the cause stays
-  cause_later : (c : Change) (next : Control) (x : Cause) → Did layout past control c next → control.cause ≡ Some x → next.cause ≡ Some x
-  cause_later c next x (Quietly q n) e = ap (λ k. k.cause) n ∙ e
-  cause_later c next x (Entered lp v o f n) e = ap (λ k. k.cause) n ∙ e
-  cause_later c next x (Resumed lp saved rest o p s f n) e = ap (λ k. k.cause) n ∙ e
-  cause_later c next x (Interrupted lp f n) e = ap (λ k. k.cause) n ∙ interrupted_cause control.now ∙ e
-  cause_later c next x (Went f s) e = s.cause ∙ e
-  cause_later c next x (Exited lp exit f h) e = h.left.stays x (h.since.cause ∙ e)
+  cause_later : (x : Cause) → control.cause ≡ Some x → Holds layout past control (λ change next. next.cause ≡ Some x)
+  cause_later x e = record {
+    quiet = e;
+    entered = λ lp v n. e;
+    resumed = λ lp saved rest n p s. e;
+    interrupted = λ lp. (interrupted_same control control.now).cause ∙ e;
+    went = λ next s. s.cause ∙ e;
+    exited = λ lp exit next h. h.left.stays x (h.since.cause ∙ e);
+  }
 
   -- ---- The move that stops the enclave
 
@@ -55,16 +54,21 @@ module _ (layout : Layout) (past : History) (control : Control) where
   not_both : (o : Option Cause) (x : Cause) → o ≡ None → o ≡ Some x → ⊥
   not_both o x e f = let z : None ≡ Some x = sym e ∙ f in cc
 
-  stop_says : (c : Change) (next : Control) (x : Cause) → Did layout past control c next → control.cause ≡ None → next.cause ≡ Some x → StopSays x
-  stop_says c next x (Quietly q n) none e = absurd (not_both next.cause x (ap (λ k. k.cause) n ∙ none) e)
-  stop_says c next x (Entered lp v o f n) none e = absurd (not_both next.cause x (ap (λ k. k.cause) n ∙ none) e)
-  stop_says c next x (Resumed lp saved rest o p s f n) none e = absurd (not_both next.cause x (ap (λ k. k.cause) n ∙ none) e)
-  stop_says c next x (Interrupted lp f n) none e = absurd (not_both next.cause x (ap (λ k. k.cause) n ∙ interrupted_cause control.now ∙ none) e)
-  stop_says c next x (Went f s) none e = absurd (not_both next.cause x (s.cause ∙ none) e)
-  stop_says c next x (Exited lp exit f h) none e = record {
-    someone = h.someone;
-    says = same_says h.before x h.since (subst (StopBy layout past h.before) e (h.left.cause (h.since.cause ∙ none)));
+  stop_says : (x : Cause) → control.cause ≡ None → Holds layout past control (λ change next. next.cause ≡ Some x → StopSays x)
+  stop_says x none = record {
+    quiet = not_yet control none;
+    entered = λ lp v n. not_yet (entered control v) none;
+    resumed = λ lp saved rest n p s. not_yet (resumed_by control (saved ∷ rest)) none;
+    interrupted = λ lp. not_yet (interrupted_by control control.now) ((interrupted_same control control.now).cause ∙ none);
+    went = λ next s. not_yet next (s.cause ∙ none);
+    exited = λ lp exit next h e. record {
+      someone = h.someone;
+      says = same_says h.before x h.since (subst (StopBy layout past h.before) e (h.left.cause (h.since.cause ∙ none)));
+    };
   }
+    where
+      not_yet : (next : Control) → next.cause ≡ None → next.cause ≡ Some x → StopSays x
+      not_yet next n e = absurd (not_both next.cause x n e)
 
 -- ---- Its place among the moves
 
@@ -72,9 +76,10 @@ module _ (layout : Layout) (valid : IsValid layout) (tape : List Event) (misses 
   abbrev pub Of : List Move → Control
   Of moves = (trace layout tape moves).control
 
-  pub did_next : (m : Move) (moves : List Move) → Did layout (trace layout tape moves).past (Of moves) (changed layout (trace layout tape moves) m) (Of (m ∷ moves))
-  did_next m moves =
-      did layout (clusters_fit layout valid) (program_turns layout tape moves) (trace layout tape moves) m (λ lp. placed layout lp tape moves) (trace_is_orderly layout valid tape misses moves)
+  -- what holds in each case of a move holds of the next one
+  pub did_next : (m : Move) (moves : List Move) (P : Reading → Control → Type 0) → Holds layout (trace layout tape moves).past (Of moves) P → P (reading (changed layout (trace layout tape moves) m)) (Of (m ∷ moves))
+  did_next m moves P holds =
+      did layout (clusters_fit layout valid) (program_turns layout tape moves) (trace layout tape moves) P holds (λ lp. placed layout lp tape moves) (trace_is_orderly layout valid tape misses moves) m
 
   -- the enclave stopped after these moves, for this cause
   pub record StopsAfter (moves : List Move) (cause : Cause) (stopping : List Move) : Type 0 where
@@ -92,11 +97,11 @@ module _ (layout : Layout) (valid : IsValid layout) (tape : List Event) (misses 
         newer = m ∷ [];
         stands = refl;
         fewer = omega arith;
-        says = stop_says layout (trace layout tape moves).past (Of moves) (changed layout (trace layout tape moves) m) (Of (m ∷ moves)) x (did_next m moves) e h;
+        says = did_next m moves (λ change next. next.cause ≡ Some x → StopSays layout (trace layout tape moves).past (Of moves) x) (stop_says layout (trace layout tape moves).past (Of moves) x e) h;
       })
   stops_by m moves x (Some y) e h go =
       let test : is_some (Of moves).cause ≡ true = ap is_some e in
-      let later : (Of (m ∷ moves)).cause ≡ Some y = cause_later layout (trace layout tape moves).past (Of moves) (changed layout (trace layout tape moves) m) (Of (m ∷ moves)) y (did_next m moves) e in
+      let later : (Of (m ∷ moves)).cause ≡ Some y = did_next m moves (λ change next. next.cause ≡ Some y) (cause_later layout (trace layout tape moves).past (Of moves) y e) in
       let before = go (e ∙ sym later ∙ h) in
       subst (λ b. StopsAfter (m ∷ moves) x (if not b then moves else before_stop layout tape moves)) (sym test)
       (record {

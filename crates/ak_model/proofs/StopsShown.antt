@@ -1,7 +1,7 @@
 -- A processor leaves with the exit of a stopped enclave only where the stop has a cause.
 use Rattle.std.proofs.Common.{◌≡◌, inl, inr, ℕ, zero, suc, List, [], ◌∷◌, length, refl, sym, subst}
-use Rattle.std.specs.Prelude.{Bool, true, false, not, if◌then◌else◌, Option, Some, None, is_some, nat_lt, ◌==◌}
-use Rattle.std.proofs.lemmas.Bool.{or_cases, ltb-true}
+use Rattle.std.specs.Prelude.{Bool, true, false, if◌then◌else◌, Option, Some, None, is_some, nat_lt, ◌==◌}
+use Rattle.std.proofs.lemmas.Bool.{or_cases}
 use Rattle.ak_core.specs.Layout.{Layout, IsValid}
 use Rattle.ak_core.specs.Mem.{Touch}
 use Rattle.ak_core.specs.declared.event.Event.{Event}
@@ -9,26 +9,25 @@ use Rattle.ak_core.specs.declared.event.Event.TheVariants.{Call, Miss, Trap, Bre
 use Rattle.ak_core.specs.declared.moves.Exit.{Exit}
 use Rattle.ak_core.specs.declared.moves.Exit.TheVariants.{Still, Stopped}
 use Rattle.ak_core.specs.declared.moves.Move.{Move}
-use Rattle.ak_core.specs.declared.moves.Move.TheVariants.{SetPte, ReadPte, Eblock, Etrack, Ewb, Eldu, Eldb, Eremove, Epa, Discard, Eenter, Eresume, Run, Interrupt}
-use Rattle.ak_core.specs.declared.moves.Answer.{Answer}
-use Rattle.ak_core.specs.declared.moves.Answer.TheVariants.{Ok, NoLp, Outside}
 use Rattle.ak_model.specs.Build.{queue_at_build}
-use Rattle.ak_model.specs.History.{History, Change, Unchanged, Maps, Blocks, Cycles, WritesOut, Loads, Removes, MakesVa, Discards, Enters, Resumes, Exits, Interrupts, if_ok, if_left, if_exit, change_of}
-use Rattle.ak_model.specs.Inside.{inside, someone_inside}
+use Rattle.ak_model.specs.History.{History, Exits, if_left, change_of}
+use Rattle.ak_model.specs.Inside.{inside}
 use Rattle.ak_model.specs.Control.{Phase, New, Running, Calling, Asked, Ended, Trapped, Dead, Context, Program, Entry, Probe, Finish, Guard, Leave, Reason, Interrupted, Cleared, Raised, Denied, Missed, Broke, Faulted, Saved, Cause, Control, cssa, first_cause}
 use Rattle.ak_model.specs.RuntimeStep.{touches, step_fault, handle, enter, finish, resume_guard, leave_call, effect, unless_fault}
 use Rattle.ak_model.specs.ProgramStep.{due, event_turn}
 use Rattle.ak_model.specs.Turn.{Turn, Goes, Leaves}
 use Rattle.ak_model.specs.Turns.{turn_of, turn, go_on, run}
 use Rattle.ak_model.specs.Answers.{answer}
-use Rattle.ak_model.specs.Entering.{entered, resumed_by, interrupted_by, on_ok, on_exit}
 use Rattle.ak_model.specs.Trace.{Moment, step, trace}
 use Rattle.ak_model.specs.Premises.{MissesFit}
 use Rattle.ak_model.specs.StepRows.{guards}
 use Rattle.ak_model.specs.Stops.{is_stopped, says_stopped, shows_stop}
 use Rattle.ak_model.specs.Orderly.{ContextFits, NowFits, PhaseFits, IsOrderly, TurnIsOrderly, MomentIsOrderly, after_turn}
-use Rattle.ak_model.proofs.Someone.{IsQuiet, is_someone, quiet_ok, quiet_handle}
-use Rattle.ak_model.proofs.OrderlySteps.{ClustersFit}
+use Rattle.ak_model.specs.MovesBefore.{changed}
+use Rattle.ak_model.proofs.Tests.{either_way}
+use Rattle.ak_model.proofs.Placed.{placed}
+use Rattle.ak_model.proofs.Moved.{Reading, reading, each_move, interrupted_same}
+use Rattle.ak_model.proofs.OrderlySteps.{ClustersFit, first_is_some}
 use Rattle.ak_model.proofs.OrderlyTurns.{turn_fits}
 use Rattle.ak_model.proofs.ValidClusters.{clusters_fit}
 use Rattle.ak_model.proofs.Orderly.{trace_is_orderly}
@@ -43,17 +42,9 @@ TurnStops control (Goes next) = StopsWith control Still next
 TurnStops control (Leaves exit next) = StopsWith control exit next
 
 module _ (layout : Layout) where
-  first_some : (o : Option Cause) (cause : Cause) → is_some (first_cause o cause) ≡ true
-  first_some None cause = refl
-  first_some (Some earlier) cause = refl
-
   stuck_by : (b : Bool) (o : Option Cause) (cause : Cause) → is_some o ≡ true → is_some (if b then first_cause o cause else o) ≡ true
-  stuck_by true o cause h = first_some o cause
+  stuck_by true o cause h = first_is_some o cause
   stuck_by false o cause h = h
-
-  if_stops : (b : Bool) (control : Control) (t u : Turn) → TurnStops control t → TurnStops control u → TurnStops control (if b then t else u)
-  if_stops true control t u h k = h
-  if_stops false control t u h k = k
 
   -- ---- One turn
 
@@ -65,13 +56,13 @@ module _ (layout : Layout) where
     -- there is a cause
     dies : (exit : Exit) (next : Control) (cause : Cause) → next.cause ≡ first_cause control.cause cause → StopsWith control exit next
     dies exit next cause e =
-        let some : is_some next.cause ≡ true = subst (λ o. is_some o ≡ true) (sym e) (first_some control.cause cause) in
+        let some : is_some next.cause ≡ true = subst (λ o. is_some o ≡ true) (sym e) (first_is_some control.cause cause) in
         record { stays = λ h. some; shown = λ h. some }
 
     by_reason : (k : ℕ) (inner : Context) (reason : Reason) (older : List Saved) → TurnStops control (handle layout control k (record { context = inner; reason = reason } ∷ older))
     by_reason k inner Interrupted older = same Exit.Nothing _ refl refl
     by_reason k inner Cleared older = same Exit.Nothing _ refl refl
-    by_reason k inner (Faulted t) older = if_stops (k == 2) control _ _ (dies Stopped _ _ refl) (dies Stopped _ _ refl)
+    by_reason k inner (Faulted t) older = either_way (TurnStops control) (k == 2) _ _ (dies Stopped _ _ refl) (dies Stopped _ _ refl)
     by_reason k inner (Raised v) older = same (Exit.Trapped v) _ refl refl
     by_reason k inner Denied older = same (Exit.Trapped 14) _ refl refl
     by_reason k inner Broke older = dies Stopped _ _ refl
@@ -138,7 +129,7 @@ module _ (layout : Layout) where
     events (Some (Call i b a)) = same Still _ refl refl
     events (Some (Miss i c)) = same (Exit.Pf _ _) _ refl refl
     events (Some (Break i)) = same (Exit.Pf _ _) _ refl refl
-    events (Some (Trap i v)) = if_stops (v == 14) control _ _ (same (Exit.Pf _ _) _ refl refl) (same (Exit.Vector v) _ refl refl)
+    events (Some (Trap i v)) = either_way (TurnStops control) (v == 14) _ _ (same (Exit.Pf _ _) _ refl refl) (same (Exit.Vector v) _ refl refl)
 
     turn_stops : (past : History) (now : Option Context) → PhaseFits layout control.queue control.cause control.phase → NowFits layout control.phase control.stack now → TurnStops control (turn_of layout past control now)
     turn_stops past None p fits = same Still _ refl refl
@@ -169,79 +160,31 @@ module _ (layout : Layout) where
   -- ---- Moves
 
   -- a move with this change: a cause stays, and there is one where a processor left with the exit of a stopped enclave
-  record MoveStops (control : Control) (c : Change) (next : Control) : Type 0 where
+  record MoveStops (control : Control) (change : Reading) (next : Control) : Type 0 where
     pub stays : is_some control.cause ≡ true → is_some next.cause ≡ true
-    pub shown : says_stopped c ≡ true → is_some next.cause ≡ true
+    pub shown : change.stopped ≡ true → is_some next.cause ≡ true
 
-  quiet_says : (c : Change) → IsQuiet layout c → says_stopped c ≡ false
-  quiet_says Unchanged q = refl
-  quiet_says (Maps p f flags) q = refl
-  quiet_says (Blocks f) q = refl
-  quiet_says Cycles q = refl
-  quiet_says (WritesOut f va i k) q = refl
-  quiet_says (Loads f k p va i blocked) q = refl
-  quiet_says (Removes f) q = refl
-  quiet_says (MakesVa f) q = refl
-  quiet_says (Discards k) q = refl
-  quiet_says (Enters lp v) q = absurd q
-  quiet_says (Resumes lp) q = absurd q
-  quiet_says (Exits lp exit) q = absurd q
-  quiet_says (Interrupts lp) q = absurd q
+  silent : (control : Control) (change : Reading) (next : Control) → next.cause ≡ control.cause → change.stopped ≡ false → MoveStops control change next
+  silent control change next e s = record { stays = λ h. subst (λ o. is_some o ≡ true) (sym e) h; shown = λ h. absurd (cc) }
 
-  silent : (control : Control) (c : Change) (next : Control) → next.cause ≡ control.cause → says_stopped c ≡ false → MoveStops control c next
-  silent control c next e s = record { stays = λ h. subst (λ o. is_some o ≡ true) (sym e) h; shown = λ h. absurd (cc) }
-
-  quietly : (control : Control) (c : Change) → IsQuiet layout c → MoveStops control c control
-  quietly control c q = silent control c control refl (quiet_says c q)
-
-  entering : (control : Control) (lp v : ℕ) (a : Answer) → MoveStops control (if_ok a (Enters lp v)) (on_ok a control (entered control v))
-  entering control lp v Ok = silent control (Enters lp v) _ refl refl
-  entering control lp v _ = silent control Unchanged control refl refl
-
-  resumed_cause : (control : Control) (stack : List Saved) → (resumed_by control stack).cause ≡ control.cause
-  resumed_cause control [] = refl
-  resumed_cause control (saved ∷ older) = refl
-
-  resuming : (control : Control) (lp : ℕ) (a : Answer) → MoveStops control (if_ok a (Resumes lp)) (on_ok a control (resumed_by control control.stack))
-  resuming control lp Ok = silent control (Resumes lp) _ (resumed_cause control control.stack) refl
-  resuming control lp _ = silent control Unchanged control refl refl
-
-  interrupted_cause : (control : Control) (now : Option Context) → (interrupted_by control now).cause ≡ control.cause
-  interrupted_cause control None = refl
-  interrupted_cause control (Some context) = refl
-
-  interrupting : (control : Control) (lp : ℕ) (a : Answer) → MoveStops control (if_ok a (Interrupts lp)) (on_ok a control (interrupted_by control control.now))
-  interrupting control lp Ok = silent control (Interrupts lp) _ (interrupted_cause control control.now) refl
-  interrupting control lp _ = silent control Unchanged control refl refl
-
-  left_says : (control : Control) (lp : ℕ) (exit : Exit) (next : Control) → StopsWith control exit next → MoveStops control (if_left exit (Exits lp exit)) next
+  left_says : (control : Control) (lp : ℕ) (exit : Exit) (next : Control) → StopsWith control exit next → MoveStops control (reading (if_left exit (Exits lp exit))) next
   left_says control lp Still next h = record { stays = h.stays; shown = λ e. absurd (cc) }
   left_says control lp exit next h = record { stays = h.stays; shown = h.shown }
 
-  running : (fit : ClustersFit layout) (past : History) (so_far : List ℕ) (control : Control) (lp n : ℕ) (there within : Bool) → nat_lt lp layout.lps ≡ there → inside past lp ≡ within → IsOrderly layout so_far (someone_inside layout past) control → (let a = if not there then NoLp else (if not within then Outside else Answer.Exit (run layout past n control).exit) in MoveStops control (if_exit a (λ exit. Exits lp exit)) (on_exit a control (run layout past n control).control))
-  running fit past so_far control lp n false within e d old = silent control Unchanged control refl refl
-  running fit past so_far control lp n true false e d old = silent control Unchanged control refl refl
-  running fit past so_far control lp n true true e d old =
-      let someone = is_someone layout past lp (ltb-true lp layout.lps e) d in
-      left_says control lp (run layout past n control).exit (run layout past n control).control
-      (run_stops fit past n so_far control (subst (λ b. IsOrderly layout so_far b control) someone old))
-
-  move_stops : (fit : ClustersFit layout) (so_far : List ℕ) (moment : Moment) (m : Move) → MomentIsOrderly layout so_far moment → MoveStops moment.control (change_of (m, answer layout moment.past moment.control m)) (step layout moment m).control
-  move_stops fit so_far moment (ReadPte p) old = quietly moment.control Unchanged tt
-  move_stops fit so_far moment (Eenter lp v) old = entering moment.control lp.0 v (answer layout moment.past moment.control (Eenter lp v))
-  move_stops fit so_far moment (Eresume lp) old = resuming moment.control lp.0 (answer layout moment.past moment.control (Eresume lp))
-  move_stops fit so_far moment (Interrupt lp) old = interrupting moment.control lp.0 (answer layout moment.past moment.control (Interrupt lp))
-  move_stops fit so_far moment (Run lp n) old =
-      running fit moment.past so_far moment.control lp.0 n (nat_lt lp.0 layout.lps) (inside moment.past lp.0) refl refl old
-  move_stops fit so_far moment (SetPte p f flags) old = quietly moment.control _ (quiet_ok layout (answer layout moment.past moment.control (SetPte p f flags)) _ tt)
-  move_stops fit so_far moment (Eblock f) old = quietly moment.control _ (quiet_ok layout (answer layout moment.past moment.control (Eblock f)) _ tt)
-  move_stops fit so_far moment Etrack old = quietly moment.control _ (quiet_ok layout (answer layout moment.past moment.control Etrack) _ tt)
-  move_stops fit so_far moment (Ewb f va i) old = quietly moment.control _ (quiet_handle layout (answer layout moment.past moment.control (Ewb f va i)) _ (λ k. tt))
-  move_stops fit so_far moment (Eldu f k p va i) old = quietly moment.control _ (quiet_ok layout (answer layout moment.past moment.control (Eldu f k p va i)) _ tt)
-  move_stops fit so_far moment (Eldb f k p va i) old = quietly moment.control _ (quiet_ok layout (answer layout moment.past moment.control (Eldb f k p va i)) _ tt)
-  move_stops fit so_far moment (Eremove f) old = quietly moment.control _ (quiet_ok layout (answer layout moment.past moment.control (Eremove f)) _ tt)
-  move_stops fit so_far moment (Epa f) old = quietly moment.control _ (quiet_ok layout (answer layout moment.past moment.control (Epa f)) _ tt)
-  move_stops fit so_far moment (Discard k) old = quietly moment.control _ (quiet_ok layout (answer layout moment.past moment.control (Discard k)) _ tt)
+  move_stops : (fit : ClustersFit layout) (so_far : List ℕ) (moment : Moment) (m : Move) → ((lp : ℕ) → inside moment.past lp ≡ true → nat_lt lp layout.lps ≡ true) → MomentIsOrderly layout so_far moment → MoveStops moment.control (reading (changed layout moment m)) (step layout moment m).control
+  move_stops fit so_far moment m low old =
+      let control : Control = moment.control in
+      each_move layout moment (λ e. MoveStops control e.change e.next)
+      (record {
+        quiet = silent control _ control refl refl;
+        enters = λ lp v there out few. silent control _ _ refl refl;
+        resumes = λ lp saved rest there out free e. silent control _ _ refl refl;
+        interrupts = λ lp d. silent control _ _ (interrupted_same control control.now).cause refl;
+        runs = λ lp n d someone.
+            let ran = run layout moment.past n control in
+            left_says control lp ran.exit ran.control (run_stops fit moment.past n so_far control (subst (λ b. IsOrderly layout so_far b control) someone old));
+      })
+      low m
 
   -- ---- Whole traces
 
@@ -250,7 +193,7 @@ module _ (layout : Layout) where
   stop-has_cause valid tape misses [] h = cc
   stop-has_cause valid tape misses (m ∷ moves) h =
       let before : Moment = trace layout tape moves in
-      let stops = move_stops (clusters_fit layout valid) _ before m (trace_is_orderly layout valid tape misses moves) in
+      let stops = move_stops (clusters_fit layout valid) _ before m (λ lp. placed layout lp tape moves) (trace_is_orderly layout valid tape misses moves) in
       elim (or_cases (says_stopped (change_of (m, answer layout before.past before.control m))) (shows_stop before.past) h) [
         | inl now ↦ stops.shown now
         | inr earlier ↦ stops.stays (stop-has_cause valid tape misses moves earlier)

@@ -4,7 +4,7 @@ use Rattle.std.specs.Prelude.{Bool, true, false, not, if◌then◌else◌, Optio
 use Rattle.ak_core.specs.Layout.{Layout}
 use Rattle.ak_core.specs.declared.event.Event.{Event}
 use Rattle.ak_core.specs.declared.moves.Move.{Move}
-use Rattle.ak_core.specs.declared.moves.Move.TheVariants.{SetPte, ReadPte, Eblock, Etrack, Ewb, Eldu, Eldb, Eremove, Epa, Discard, Eenter, Eresume, Run, Interrupt}
+use Rattle.ak_core.specs.declared.moves.Move.TheVariants.{Eenter, Eresume, Run, Interrupt}
 use Rattle.ak_core.specs.declared.moves.Answer.{Answer}
 use Rattle.ak_core.specs.declared.moves.Answer.TheVariants.{Ok, NoLp, Outside}
 use Rattle.ak_model.specs.History.{History}
@@ -156,35 +156,16 @@ module _ (layout : Layout) (g : List Event → List Event) (P : List Event → �
   run_good true true past n control h = run_back past n control h
 
   step_back : (moment : Moment) (m : Move) → Good (step layout moment m).control → Good moment.control
-  step_back moment (SetPte p f flags) h = h
-  step_back moment (ReadPte p) h = h
-  step_back moment (Eblock f) h = h
-  step_back moment Etrack h = h
-  step_back moment (Ewb f va i) h = h
-  step_back moment (Eldu f k p va i) h = h
-  step_back moment (Eldb f k p va i) h = h
-  step_back moment (Eremove f) h = h
-  step_back moment (Epa f) h = h
-  step_back moment (Discard k) h = h
   step_back moment (Eenter lp v) h = ok_good (enter_answer layout moment.past moment.control lp.0) moment.control (entered moment.control v) (λ k. k) h
   step_back moment (Eresume lp) h = ok_good (resume_answer layout moment.past moment.control lp.0) moment.control (resumed_by moment.control moment.control.stack) (resumed_good moment.control moment.control.stack) h
   step_back moment (Run lp n) h = run_good (nat_lt lp.0 layout.lps) (inside moment.past lp.0) moment.past n moment.control h
   step_back moment (Interrupt lp) h = ok_good (if_inside layout moment.past lp.0 Ok) moment.control (interrupted_by moment.control moment.control.now) (interrupted_good moment.control moment.control.now) h
+  step_back moment _ h = h
 
   same_moment : (past : History) (control : Control) (m : Move) (a a' : Answer) (next next' : Control) → a' ≡ a → next' ≡ tape_map g next → (let made : Moment = record { past = (m, a') ∷ past; control = next' } in made) ≡ moment_map g (record { past = (m, a) ∷ past; control = next })
   same_moment past control m a a' next next' e f = cc
 
   step_ok : (moment : Moment) (m : Move) → Good (step layout moment m).control → step layout (moment_map g moment) m ≡ moment_map g (step layout moment m)
-  step_ok moment (SetPte p f flags) h = refl
-  step_ok moment (ReadPte p) h = refl
-  step_ok moment (Eblock f) h = refl
-  step_ok moment Etrack h = refl
-  step_ok moment (Ewb f va i) h = refl
-  step_ok moment (Eldu f k p va i) h = refl
-  step_ok moment (Eldb f k p va i) h = refl
-  step_ok moment (Eremove f) h = refl
-  step_ok moment (Epa f) h = refl
-  step_ok moment (Discard k) h = refl
   step_ok moment (Eenter lp v) h =
       same_moment moment.past moment.control (Eenter lp v) _ _ _ _ refl (ok_maps (enter_answer layout moment.past moment.control lp.0) moment.control (entered moment.control v))
   step_ok moment (Eresume lp) h =
@@ -200,6 +181,7 @@ module _ (layout : Layout) (g : List Event → List Event) (P : List Event → �
       same_moment moment.past moment.control (Interrupt lp) _ _ _ _ refl
       (ap (on_ok a (tape_map g moment.control)) (interrupted_maps moment.control moment.control.now)
       ∙ ok_maps a moment.control (interrupted_by moment.control moment.control.now))
+  step_ok moment _ h = refl
 
   -- the whole trace over the other tape
   pub trace_maps : (tape : List Event) (moves : List Move) → Good (trace layout tape moves).control → trace layout (g tape) moves ≡ moment_map g (trace layout tape moves)

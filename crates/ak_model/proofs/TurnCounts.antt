@@ -1,27 +1,24 @@
 -- How a turn's count stands to the count that the trace came to.
-use Rattle.std.proofs.Common.{◌≡◌, ℕ, zero, suc, ◌≤◌, List, [], ◌∷◌, ◌++◌, arith, refl}
-use Rattle.std.specs.Prelude.{Bool, true, false, not, if◌then◌else◌, reverse, Option, Some, None, nat_lt, ◌==◌}
+use Rattle.std.proofs.Common.{◌≡◌, ℕ, zero, suc, ◌≤◌, List, [], ◌∷◌, ◌++◌, arith}
+use Rattle.std.specs.Prelude.{true, Option, Some, None, nat_lt, ◌==◌}
 use Rattle.ak_core.specs.Layout.{Layout}
 use Rattle.ak_core.specs.declared.event.Event.{Event}
 use Rattle.ak_core.specs.declared.event.Event.TheVariants.{Call, Miss, Trap, Break}
 use Rattle.ak_core.specs.declared.moves.Move.{Move}
-use Rattle.ak_core.specs.declared.moves.Move.TheVariants.{SetPte, ReadPte, Eblock, Etrack, Ewb, Eldu, Eldb, Eremove, Epa, Discard, Eenter, Eresume, Run, Interrupt}
-use Rattle.ak_core.specs.declared.moves.Answer.{Answer}
-use Rattle.ak_core.specs.declared.moves.Answer.TheVariants.{Ok, NoLp, Outside}
 use Rattle.ak_model.specs.History.{History}
 use Rattle.ak_model.specs.Inside.{inside}
-use Rattle.ak_model.specs.Control.{Context, Program, Entry, Probe, Finish, Guard, Leave, Saved, Control}
+use Rattle.ak_model.specs.Control.{Context, Program, Entry, Probe, Finish, Guard, Leave, Control}
 use Rattle.ak_model.specs.Turn.{Turn, Goes, Leaves}
 use Rattle.ak_model.specs.ProgramStep.{due, event_turn, program_turn}
 use Rattle.ak_model.specs.Turns.{turn_of, turn, go_on, run, unless_left, before_turns}
-use Rattle.ak_model.specs.Answers.{answer}
-use Rattle.ak_model.specs.Entering.{entered, resumed_by, interrupted_by, on_ok, on_exit}
 use Rattle.ak_model.specs.Trace.{Moment, step, trace}
 use Rattle.ak_model.specs.ProgramTurns.{ProgramTurn, turn_in, turns_in, turns_of_run, turns_of_move, program_turns}
 use Rattle.ak_model.specs.Premises.{IsCounted}
 use Rattle.ak_model.specs.Forced.{EachTurn}
+use Rattle.ak_model.proofs.Tests.{either_way}
 use Rattle.ak_model.proofs.TapeRuns.{after, runtime_count}
 use Rattle.ak_model.proofs.Placed.{placed}
+use Rattle.ak_model.proofs.Moved.{each_move, interrupted_same}
 use Rattle.ak_model.proofs.TurnFacts.{each-from, alone-append, alone-reverse}
 
 -- of each of these turns
@@ -44,10 +41,6 @@ each_append : (bound : ℕ) (made older : List ProgramTurn) → CountsEach bound
 each_append bound made older h k = alone-append (λ turn. IsCounted bound turn.count turn.event) made older h k
 
 module _ (layout : Layout) where
-  if_counts : (b : Bool) (t u : Turn) (count : ℕ) → count ≤ (after t).count → count ≤ (after u).count → count ≤ (after (if b then t else u)).count
-  if_counts true t u count e f = e
-  if_counts false t u count e f = f
-
   -- ---- One turn
 
   event_counts : (control : Control) (event : Option Event) → IsCounted (after (event_turn layout control event)).count control.count event
@@ -55,7 +48,7 @@ module _ (layout : Layout) where
   event_counts control (Some (Call i b a)) = omega arith
   event_counts control (Some (Miss i c)) = omega arith
   event_counts control (Some (Break i)) = omega arith
-  event_counts control (Some (Trap i v)) = if_counts (v == 14) _ _ control.count (omega arith) (omega arith)
+  event_counts control (Some (Trap i v)) = either_way (λ t. control.count ≤ (after t).count) (v == 14) _ _ (omega arith) (omega arith)
 
   counts_le : (bound count : ℕ) (event : Option Event) → IsCounted bound count event → count ≤ bound
   counts_le bound count None h = omega arith
@@ -118,64 +111,22 @@ module _ (layout : Layout) where
 
   -- ---- Moves
 
-  inside_counts : (there within : Bool) → (within ≡ true → there ≡ true) → (lp : ℕ) (past : History) (n : ℕ) (control : Control) → CountsEach (on_exit (if not there then NoLp else (if not within then Outside else Answer.Exit (run layout past n control).exit)) control (run layout past n control).control).count (if within then reverse (turns_of_run layout lp past n control) else [])
-  inside_counts there false known lp past n control = tt
-  inside_counts true true known lp past n control =
-      alone-reverse (λ turn. IsCounted (run layout past n control).control.count turn.count turn.event) (turns_of_run layout lp past n control) (run_counts lp past n control)
-  inside_counts false true known lp past n control = let clash : false ≡ true = known refl in cc
-
-  move_counts : (moment : Moment) (m : Move) → ((lp : ℕ) → inside moment.past lp ≡ true → nat_lt lp layout.lps ≡ true) → CountsEach (step layout moment m).control.count (turns_of_move layout moment m)
-  move_counts moment (Run lp n) known =
-      inside_counts (nat_lt lp.0 layout.lps) (inside moment.past lp.0) (known lp.0) lp.0 moment.past n moment.control
-  move_counts moment (SetPte p f flags) known = tt
-  move_counts moment (ReadPte p) known = tt
-  move_counts moment (Eblock f) known = tt
-  move_counts moment Etrack known = tt
-  move_counts moment (Ewb f va i) known = tt
-  move_counts moment (Eldu f k p va i) known = tt
-  move_counts moment (Eldb f k p va i) known = tt
-  move_counts moment (Eremove f) known = tt
-  move_counts moment (Epa f) known = tt
-  move_counts moment (Discard k) known = tt
-  move_counts moment (Eenter lp v) known = tt
-  move_counts moment (Eresume lp) known = tt
-  move_counts moment (Interrupt lp) known = tt
-
-  ok_grows : (a : Answer) (control next : Control) → next.count ≡ control.count → control.count ≤ (on_ok a control next).count
-  ok_grows Ok control next e = omega arith
-  ok_grows _ control next e = omega arith
-
-  exit_grows : (a : Answer) (control next : Control) → control.count ≤ next.count → control.count ≤ (on_exit a control next).count
-  exit_grows (Answer.Exit exit) control next e = e
-  exit_grows _ control next e = omega arith
-
-  resumed_count : (control : Control) (stack : List Saved) → (resumed_by control stack).count ≡ control.count
-  resumed_count control [] = refl
-  resumed_count control (saved ∷ older) = refl
-
-  interrupted_count : (control : Control) (now : Option Context) → (interrupted_by control now).count ≡ control.count
-  interrupted_count control None = refl
-  interrupted_count control (Some context) = refl
-
-  step_grows : (moment : Moment) (m : Move) → moment.control.count ≤ (step layout moment m).control.count
-  step_grows moment (Run lp n) =
-      exit_grows (answer layout moment.past moment.control (Run lp n)) moment.control (run layout moment.past n moment.control).control (run_grows moment.past n moment.control)
-  step_grows moment (Eenter lp v) =
-      ok_grows (answer layout moment.past moment.control (Eenter lp v)) moment.control (entered moment.control v) refl
-  step_grows moment (Eresume lp) =
-      ok_grows (answer layout moment.past moment.control (Eresume lp)) moment.control (resumed_by moment.control moment.control.stack) (resumed_count moment.control moment.control.stack)
-  step_grows moment (Interrupt lp) =
-      ok_grows (answer layout moment.past moment.control (Interrupt lp)) moment.control (interrupted_by moment.control moment.control.now) (interrupted_count moment.control moment.control.now)
-  step_grows moment (SetPte p f flags) = omega arith
-  step_grows moment (ReadPte p) = omega arith
-  step_grows moment (Eblock f) = omega arith
-  step_grows moment Etrack = omega arith
-  step_grows moment (Ewb f va i) = omega arith
-  step_grows moment (Eldu f k p va i) = omega arith
-  step_grows moment (Eldb f k p va i) = omega arith
-  step_grows moment (Eremove f) = omega arith
-  step_grows moment (Epa f) = omega arith
-  step_grows moment (Discard k) = omega arith
+  -- the move's turns are before its count, and so are those of the moves before
+  move_counts : (moment : Moment) (m : Move) → ((lp : ℕ) → inside moment.past lp ≡ true → nat_lt lp layout.lps ≡ true) → CountsEach (step layout moment m).control.count (turns_of_move layout moment m) × (moment.control.count ≤ (step layout moment m).control.count)
+  move_counts moment m known =
+      let control : Control = moment.control in
+      each_move layout moment (λ e. CountsEach e.next.count e.turns × (control.count ≤ e.next.count))
+      (record {
+        quiet = (tt, omega arith);
+        enters = λ lp v there out few. (tt, omega arith);
+        resumes = λ lp saved rest there out free e. (tt, omega arith);
+        interrupts = λ lp d. (tt, let same = (interrupted_same control control.now).count in omega arith);
+        runs = λ lp n d someone. (
+          alone-reverse (λ turn. IsCounted (run layout moment.past n control).control.count turn.count turn.event) (turns_of_run layout lp moment.past n control) (run_counts lp moment.past n control),
+          run_grows moment.past n control,
+        );
+      })
+      known m
 
   -- each turn that completed an instruction is one before the trace's count
   pub counts-each : (tape : List Event) (moves : List Move) → CountsEach (trace layout tape moves).control.count (program_turns layout tape moves)
@@ -183,6 +134,7 @@ module _ (layout : Layout) where
   counts-each tape (m ∷ moves) =
       let before = trace layout tape moves in
       let bound = (trace layout tape (m ∷ moves)).control.count in
+      let counts = move_counts before m (λ lp. placed layout lp tape moves) in
       each_append bound (turns_of_move layout before m) (program_turns layout tape moves)
-      (move_counts before m (λ lp. placed layout lp tape moves))
-      (each_up before.control.count bound (program_turns layout tape moves) (step_grows before m) (counts-each tape moves))
+      counts.0
+      (each_up before.control.count bound (program_turns layout tape moves) counts.1 (counts-each tape moves))

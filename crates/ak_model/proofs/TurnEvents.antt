@@ -1,27 +1,25 @@
 -- The event of a turn is one of the tape's, at the turn's count.
 use Rattle.std.proofs.Common.{◌≡◌, ℕ, zero, suc, List, [], ◌∷◌, refl, sym, subst}
-use Rattle.std.specs.Prelude.{Bool, true, false, if◌then◌else◌, reverse, Option, Some, None, ◌==◌}
+use Rattle.std.specs.Prelude.{nat_lt, Bool, true, false, Option, Some, None, ◌==◌}
 use Rattle.std.specs.Bool.{then_some}
 use Rattle.std.proofs.lemmas.Bool.{eqb-true}
 use Rattle.ak_core.specs.Layout.{Layout}
 use Rattle.ak_core.specs.declared.event.Event.{Event}
 use Rattle.ak_core.specs.declared.event.Event.TheVariants.{Call, Miss, Trap, Break}
 use Rattle.ak_core.specs.declared.moves.Move.{Move}
-use Rattle.ak_core.specs.declared.moves.Move.TheVariants.{SetPte, ReadPte, Eblock, Etrack, Ewb, Eldu, Eldb, Eremove, Epa, Discard, Eenter, Eresume, Run, Interrupt}
-use Rattle.ak_core.specs.declared.moves.Answer.{Answer}
-use Rattle.ak_core.specs.declared.moves.Answer.TheVariants.{Ok}
 use Rattle.ak_model.specs.History.{History}
 use Rattle.ak_model.specs.Inside.{inside}
-use Rattle.ak_model.specs.Control.{Context, Program, Entry, Probe, Finish, Guard, Leave, Saved, Control}
+use Rattle.ak_model.specs.Control.{Context, Program, Entry, Probe, Finish, Guard, Leave, Control}
 use Rattle.ak_model.specs.Turn.{Turn, Goes, Leaves}
 use Rattle.ak_model.specs.RuntimeStep.{runtime_turn}
 use Rattle.ak_model.specs.ProgramStep.{count_of, due, without_first, event_turn}
 use Rattle.ak_model.specs.Turns.{turn_of, turn, go_on, run, unless_left, before_turns}
-use Rattle.ak_model.specs.Answers.{answer}
-use Rattle.ak_model.specs.Entering.{entered, resumed_by, interrupted_by, on_ok, on_exit}
 use Rattle.ak_model.specs.Trace.{Moment, step, trace}
 use Rattle.ak_model.specs.ProgramTurns.{ProgramTurn, turn_in, turns_in, turns_of_run, turns_of_move, program_turns}
 use Rattle.ak_model.specs.Forced.{EachTurn}
+use Rattle.ak_model.proofs.Tests.{either_way}
+use Rattle.ak_model.proofs.Placed.{placed}
+use Rattle.ak_model.proofs.Moved.{each_move, interrupted_same}
 use Rattle.ak_model.proofs.TapeRuns.{after, runtime_rest}
 use Rattle.ak_model.proofs.TurnFacts.{alone-append, alone-reverse}
 
@@ -56,16 +54,12 @@ module _ (layout : Layout) (Q : Event → Type 0) where
   first_off [] h = tt
   first_off (event ∷ rest) h = h.1
 
-  if_rest : (b : Bool) (t u : Turn) → Rest (after t) → Rest (after u) → Rest (after (if b then t else u))
-  if_rest true t u h k = h
-  if_rest false t u h k = k
-
   event_rest : (control : Control) (event : Option Event) → Rest control → Rest (after (event_turn layout control event))
   event_rest control None h = h
   event_rest control (Some (Call i b a)) h = first_off control.rest h
   event_rest control (Some (Miss i c)) h = first_off control.rest h
   event_rest control (Some (Break i)) h = first_off control.rest h
-  event_rest control (Some (Trap i v)) h = if_rest (v == 14) _ _ (first_off control.rest h) (first_off control.rest h)
+  event_rest control (Some (Trap i v)) h = either_way (λ t. Rest (after t)) (v == 14) _ _ (first_off control.rest h) (first_off control.rest h)
 
   step_rest : (past : History) (control : Control) (context : Context) → Rest control → Rest (after (runtime_turn layout past control context))
   step_rest past control context h = subst (EachEvent Q) (sym (runtime_rest layout past control context)) h
@@ -112,71 +106,30 @@ module _ (layout : Layout) (Q : Event → Type 0) where
 
   -- ---- Moves
 
-  ok_rest : (a : Answer) (control next : Control) → Rest control → Rest next → Rest (on_ok a control next)
-  ok_rest Ok control next h k = k
-  ok_rest _ control next h k = h
-
-  exit_rest : (a : Answer) (control next : Control) → Rest control → Rest next → Rest (on_exit a control next)
-  exit_rest (Answer.Exit exit) control next h k = k
-  exit_rest _ control next h k = h
-
-  resumed_rest : (control : Control) (stack : List Saved) → Rest control → Rest (resumed_by control stack)
-  resumed_rest control [] h = h
-  resumed_rest control (saved ∷ older) h = h
-
-  interrupted_rest : (control : Control) (now : Option Context) → Rest control → Rest (interrupted_by control now)
-  interrupted_rest control None h = h
-  interrupted_rest control (Some context) h = h
-
-  move_rest : (moment : Moment) (m : Move) → Rest moment.control → Rest (step layout moment m).control
-  move_rest moment (Run lp n) h =
-      exit_rest (answer layout moment.past moment.control (Run lp n)) moment.control (run layout moment.past n moment.control).control h (run_rest moment.past n moment.control h)
-  move_rest moment (Eenter lp v) h =
-      ok_rest (answer layout moment.past moment.control (Eenter lp v)) moment.control (entered moment.control v) h h
-  move_rest moment (Eresume lp) h =
-      ok_rest (answer layout moment.past moment.control (Eresume lp)) moment.control (resumed_by moment.control moment.control.stack) h (resumed_rest moment.control moment.control.stack h)
-  move_rest moment (Interrupt lp) h =
-      ok_rest (answer layout moment.past moment.control (Interrupt lp)) moment.control (interrupted_by moment.control moment.control.now) h (interrupted_rest moment.control moment.control.now h)
-  move_rest moment (SetPte p f flags) h = h
-  move_rest moment (ReadPte p) h = h
-  move_rest moment (Eblock f) h = h
-  move_rest moment Etrack h = h
-  move_rest moment (Ewb f va i) h = h
-  move_rest moment (Eldu f k p va i) h = h
-  move_rest moment (Eldb f k p va i) h = h
-  move_rest moment (Eremove f) h = h
-  move_rest moment (Epa f) h = h
-  move_rest moment (Discard k) h = h
+  move_holds : (moment : Moment) (m : Move) → ((lp : ℕ) → inside moment.past lp ≡ true → nat_lt lp layout.lps ≡ true) → Rest moment.control → Rest (step layout moment m).control × HoldsEach (turns_of_move layout moment m)
+  move_holds moment m known h =
+      let control : Control = moment.control in
+      each_move layout moment (λ e. Rest e.next × HoldsEach e.turns)
+      (record {
+        quiet = (h, tt);
+        enters = λ lp v there out few. (h, tt);
+        resumes = λ lp saved rest there out free e. (h, tt);
+        interrupts = λ lp d. (subst (EachEvent Q) (sym (interrupted_same control control.now).rest) h, tt);
+        runs = λ lp n d someone. (
+          run_rest moment.past n control h,
+          alone-reverse (λ turn. HoldsAt turn.count turn.event) (turns_of_run layout lp moment.past n control) (run_holds lp moment.past n control h),
+        );
+      })
+      known m
 
   trace_rest : (tape : List Event) (moves : List Move) → EachEvent Q tape → Rest (trace layout tape moves).control
   trace_rest tape [] h = h
-  trace_rest tape (m ∷ moves) h = move_rest (trace layout tape moves) m (trace_rest tape moves h)
-
-  inside_holds : (within : Bool) (made : List ProgramTurn) → HoldsEach made → HoldsEach (if within then reverse made else [])
-  inside_holds true made h = alone-reverse (λ turn. HoldsAt turn.count turn.event) made h
-  inside_holds false made h = tt
-
-  move_holds : (moment : Moment) (m : Move) → Rest moment.control → HoldsEach (turns_of_move layout moment m)
-  move_holds moment (Run lp n) h =
-      inside_holds (inside moment.past lp.0) (turns_of_run layout lp.0 moment.past n moment.control) (run_holds lp.0 moment.past n moment.control h)
-  move_holds moment (SetPte p f flags) h = tt
-  move_holds moment (ReadPte p) h = tt
-  move_holds moment (Eblock f) h = tt
-  move_holds moment Etrack h = tt
-  move_holds moment (Ewb f va i) h = tt
-  move_holds moment (Eldu f k p va i) h = tt
-  move_holds moment (Eldb f k p va i) h = tt
-  move_holds moment (Eremove f) h = tt
-  move_holds moment (Epa f) h = tt
-  move_holds moment (Discard k) h = tt
-  move_holds moment (Eenter lp v) h = tt
-  move_holds moment (Eresume lp) h = tt
-  move_holds moment (Interrupt lp) h = tt
+  trace_rest tape (m ∷ moves) h = (move_holds (trace layout tape moves) m (λ lp. placed layout lp tape moves) (trace_rest tape moves h)).0
 
   -- what holds of each event of the tape holds of the event of each turn, which stands at the turn's count
   pub events-each : (tape : List Event) (moves : List Move) → EachEvent Q tape → HoldsEach (program_turns layout tape moves)
   events-each tape [] h = tt
   events-each tape (m ∷ moves) h =
       alone-append (λ turn. HoldsAt turn.count turn.event) (turns_of_move layout (trace layout tape moves) m) (program_turns layout tape moves)
-      (move_holds (trace layout tape moves) m (trace_rest tape moves h))
+      (move_holds (trace layout tape moves) m (λ lp. placed layout lp tape moves) (trace_rest tape moves h)).1
       (events-each tape moves h)

@@ -1,15 +1,14 @@
 -- Where the turns of the program stand: each comes in a run of a processor that is inside, the laws of the control state hold
 -- before it, and what was asked of each moment holds there.
 use Rattle.std.proofs.Common.{◌≡◌, ℕ, zero, suc, List, [], ◌∷◌, ◌++◌, map, reverse, refl, sym, ◌∙◌, subst}
-use Rattle.std.specs.Prelude.{Bool, true, false, ◌&&◌, if◌then◌else◌, Option, Some, None}
+use Rattle.std.specs.Prelude.{Bool, true, false, if◌then◌else◌, Option, Some, None}
 use Rattle.std.specs.List.{list_all}
 use Rattle.std.proofs.lemmas.Bool.{and_parts, ltb-true}
-use Rattle.std.proofs.lemmas.List.{reverse-append}
-use Rattle.std.proofs.lemmas.List.Folds.{list_all-append, list_all-map}
+use Rattle.std.proofs.lemmas.List.Folds.{list_all-append}
 use Rattle.ak_core.specs.Layout.{Layout, IsValid}
 use Rattle.ak_core.specs.declared.event.Event.{Event}
 use Rattle.ak_core.specs.declared.moves.Move.{Move}
-use Rattle.ak_core.specs.declared.moves.Move.TheVariants.{SetPte, ReadPte, Eblock, Etrack, Ewb, Eldu, Eldb, Eremove, Epa, Discard, Eenter, Eresume, Run, Interrupt}
+use Rattle.ak_core.specs.declared.moves.Move.TheVariants.{Run}
 use Rattle.ak_model.specs.Build.{queue_at_build}
 use Rattle.ak_model.specs.History.{History}
 use Rattle.ak_model.specs.Inside.{inside}
@@ -22,6 +21,7 @@ use Rattle.ak_model.specs.ProgramTurns.{ProgramTurn, turn_at, turn_in, turns_in,
 use Rattle.ak_model.specs.Forced.{EachTurn, queue_by}
 use Rattle.ak_model.specs.Premises.{MissesFit}
 use Rattle.ak_model.specs.Orderly.{IsOrderly, TurnIsOrderly}
+use Rattle.ak_model.proofs.Moved.{turns_all}
 use Rattle.ak_model.proofs.TapeRuns.{after}
 use Rattle.ak_model.proofs.Placed.{placed}
 use Rattle.ak_model.proofs.Someone.{is_someone}
@@ -31,14 +31,6 @@ use Rattle.ak_model.proofs.ValidClusters.{clusters_fit}
 use Rattle.ak_model.proofs.Orderly.{trace_is_orderly}
 use Rattle.ak_model.proofs.Stays.{Kept, same, then_kept, TurnKeeps, turns}
 use Rattle.ak_model.proofs.Completed.{completed, joined, turn-completed, trace-completed}
-
-all_of_reverse : {A : Type 0} (test : A → Bool) (xs : List A) → list_all test (reverse xs) ≡ true → list_all test xs ≡ true
-all_of_reverse test [] h = refl
-all_of_reverse test (x ∷ xs) h =
-    let split : list_all test (reverse xs ++ x ∷ []) ≡ true = subst (λ l. list_all test l ≡ true) (reverse-append (x ∷ []) xs) h in
-    let both = and_parts (list_all test (reverse xs)) (test x && true) (sym (list_all-append test (reverse xs) (x ∷ [])) ∙ split) in
-    let here = (and_parts (test x) true both.1).0 in
-    rw here (all_of_reverse test xs both.0)
 
 module _ (layout : Layout) (tape : List Event) (test : Moment → Bool) where
   -- it holds of each moment so far
@@ -118,12 +110,6 @@ module _ (layout : Layout) (tape : List Event) (test : Moment → Bool) where
 
     -- ---- Moves
 
-    turns_all : (moment : Moment) (n : ℕ) → list_all test (map (λ control. record moment { control = control }) (reverse (before_turns layout moment.past n moment.control))) ≡ true → list_all (λ control. test (record { past = moment.past; control = control })) (before_turns layout moment.past n moment.control) ≡ true
-    turns_all moment n h =
-        let controls : List Control = before_turns layout moment.past n moment.control in
-        all_of_reverse (λ control. test (record { past = moment.past; control = control })) controls
-        (sym (list_all-map test (λ control. record moment { control = control }) (reverse controls)) ∙ h)
-
     within_each : (moves : List Move) (lp n : ℕ) (b : Bool) → inside (trace layout tape moves).past lp ≡ b → AllMoments moves → list_all test (if b then map (λ control. record (trace layout tape moves) { control = control }) (reverse (before_turns layout (trace layout tape moves).past n (trace layout tape moves).control)) else []) ≡ true → EachTurn P (program_turns layout tape moves) → EachTurn P ((if b then reverse (turns_of_run layout lp (trace layout tape moves).past n (trace layout tape moves).control) else []) ++ program_turns layout tape moves)
     within_each moves lp n false e all tests h = h
     within_each moves lp n true e all tests h =
@@ -136,23 +122,11 @@ module _ (layout : Layout) (tape : List Event) (test : Moment → Bool) where
           counted = trace-completed layout tape moves;
           so_far = h;
         })
-        (turns_all moment n tests)
+        (turns_all layout test moment n tests)
 
     move_each : (moves : List Move) (m : Move) → AllMoments moves → list_all test (turn_moments layout (trace layout tape moves) m) ≡ true → EachTurn P (program_turns layout tape moves) → EachTurn P (turns_of_move layout (trace layout tape moves) m ++ program_turns layout tape moves)
     move_each moves (Run lp n) all tests h = within_each moves lp.0 n (inside (trace layout tape moves).past lp.0) refl all tests h
-    move_each moves (Eenter lp v) all tests h = h
-    move_each moves (Eresume lp) all tests h = h
-    move_each moves (Interrupt lp) all tests h = h
-    move_each moves (SetPte p f flags) all tests h = h
-    move_each moves (ReadPte p) all tests h = h
-    move_each moves (Eblock f) all tests h = h
-    move_each moves Etrack all tests h = h
-    move_each moves (Ewb f va i) all tests h = h
-    move_each moves (Eldu f k p va i) all tests h = h
-    move_each moves (Eldb f k p va i) all tests h = h
-    move_each moves (Eremove f) all tests h = h
-    move_each moves (Epa f) all tests h = h
-    move_each moves (Discard k) all tests h = h
+    move_each moves _ all tests h = h
 
     -- what follows where a turn stands holds of each turn
     pub turns-each : (moves : List Move) → AllMoments moves → EachTurn P (program_turns layout tape moves)

@@ -4,7 +4,7 @@ use Rattle.std.specs.Prelude.{Bool, true, false, not, if◌then◌else◌, rever
 use Rattle.ak_core.specs.Layout.{Layout}
 use Rattle.ak_core.specs.declared.event.Event.{Event}
 use Rattle.ak_core.specs.declared.moves.Move.{Move}
-use Rattle.ak_core.specs.declared.moves.Move.TheVariants.{SetPte, ReadPte, Eblock, Etrack, Ewb, Eldu, Eldb, Eremove, Epa, Discard, Eenter, Eresume, Run, Interrupt}
+use Rattle.ak_core.specs.declared.moves.Move.TheVariants.{Run}
 use Rattle.ak_core.specs.declared.moves.Answer.{Answer}
 use Rattle.ak_core.specs.declared.moves.Answer.TheVariants.{NoLp, Outside}
 use Rattle.ak_model.specs.History.{History}
@@ -56,19 +56,7 @@ module _ (layout : Layout) (g : List Event → List Event) (P : List Event → �
   move_ok : (moment : Moment) (m : Move) → ((lp : ℕ) → inside moment.past lp ≡ true → nat_lt lp layout.lps ≡ true) → Good (step layout moment m).control → turns_of_move layout (moment_map g moment) m ≡ turns_of_move layout moment m
   move_ok moment (Run lp n) known h =
       inside_ok (nat_lt lp.0 layout.lps) (inside moment.past lp.0) (known lp.0) lp.0 moment.past n moment.control h
-  move_ok moment (SetPte p f flags) known h = refl
-  move_ok moment (ReadPte p) known h = refl
-  move_ok moment (Eblock f) known h = refl
-  move_ok moment Etrack known h = refl
-  move_ok moment (Ewb f va i) known h = refl
-  move_ok moment (Eldu f k p va i) known h = refl
-  move_ok moment (Eldb f k p va i) known h = refl
-  move_ok moment (Eremove f) known h = refl
-  move_ok moment (Epa f) known h = refl
-  move_ok moment (Discard k) known h = refl
-  move_ok moment (Eenter lp v) known h = refl
-  move_ok moment (Eresume lp) known h = refl
-  move_ok moment (Interrupt lp) known h = refl
+  move_ok moment _ known h = refl
 
   -- the program turns of all moves are the same over the other tape
   pub program_turns-same : (tape : List Event) (moves : List Move) → Good (trace layout tape moves).control → program_turns layout (g tape) moves ≡ program_turns layout tape moves

@@ -1,6 +1,6 @@
 -- Under the rules each permitted access to a cluster that is in is walkable, so that no break is forced.
 use Rattle.std.proofs.Common.{◌≡◌, ℕ, zero, suc, ◌+◌, ◌<◌, ◌≤◌, List, [], ◌∷◌, arith, refl, sym, subst}
-use Rattle.std.specs.Prelude.{Bool, true, false, not, ◌||◌, cond, filter, Some, ◌==◌, Option, None}
+use Rattle.std.specs.Prelude.{Bool, true, false, ◌||◌, cond, filter, Some, ◌==◌, Option, None}
 use Rattle.std.specs.List.{range_with_len, list_all}
 use Rattle.std.proofs.lemmas.Bool.{and_parts, eqb-true, eqb-false, eq-eqb, not-false}
 use Rattle.ak_core.specs.Layout.{Layout}
@@ -13,13 +13,14 @@ use Rattle.ak_model.specs.Queue.{is_in}
 use Rattle.ak_model.specs.Control.{Program, Control}
 use Rattle.ak_model.specs.Honours.{is_mapped, cluster_is_mapped, runtime_pages, keeps_mapped}
 use Rattle.ak_model.specs.Orderly.{IsOrderly}
-use Rattle.ak_model.proofs.Strong.{walkable-strong}
-use Rattle.ak_model.proofs.OrderlyTurns.{in_program}
 use Rattle.ak_model.specs.Flat.{Run}
 use Rattle.ak_model.specs.Ends.{Runs}
 use Rattle.ak_model.specs.Reached.{touches_next}
 use Rattle.ak_model.specs.ProgramTurns.{ProgramTurn, turn_at}
 use Rattle.ak_model.specs.Forced.{queue_by, BreakIsForced}
+use Rattle.ak_model.proofs.Tests.{implied}
+use Rattle.ak_model.proofs.Strong.{walkable-strong}
+use Rattle.ak_model.proofs.OrderlyTurns.{in_program}
 use Rattle.ak_model.proofs.ProgramPages.{AllLow, line_low, low_at}
 
 in_by : (test : ℕ → Bool) (x c : ℕ) (later : Bool) (same : Bool) → (x == c) ≡ same → (same || later) ≡ true → test x ≡ true → (later ≡ true → test c ≡ true) → test c ≡ true
@@ -46,15 +47,11 @@ all_kept test keep (suc n) a p low high h all =
     kept_by test keep a p (filter keep (range_with_len (a + 1) n)) (a == p) (keep a) refl refl h all
     (λ ne rest. all_kept test keep n (a + 1) p (omega arith) (omega arith) h rest)
 
-or_right : (a b : Bool) → a ≡ true → (not a || b) ≡ true → b ≡ true
-or_right true b e h = h
-or_right false b e h = absurd (cc)
-
 -- under the rules a permitted access to a page of the program whose cluster is in is walkable
 pub in-walkable : (layout : Layout) (so_far : List ℕ) (past : History) (control : Control) (t : Touch) → IsOrderly layout so_far true control → control.now ≡ Some Program → someone_inside layout past ≡ true → keeps_mapped layout (record { past = past; control = control }) ≡ true → t.page.0 < pages layout → permits layout t.page.0 t.kind ≡ true → is_in so_far (cluster_at layout t.page.0) ≡ true → touch_walkable layout past t ≡ true
 in-walkable layout so_far past control t orderly program someone mapped low allowed inside =
     let c : ℕ = cluster_at layout t.page.0 in
-    let all = or_right (someone_inside layout past) _ someone mapped in
+    let all = implied (someone_inside layout past) _ someone mapped in
     let most = and_parts (tcs_walkable layout past) _ all in
     let clusters = (and_parts (list_all (is_mapped layout past) (runtime_pages layout)) _ most.1).1 in
     let here : is_in control.queue c ≡ true = subst (λ q. is_in q c ≡ true) (sym (in_program layout so_far true control orderly program)) inside in

@@ -1,8 +1,9 @@
 -- What holds of misses and breaks where translations are kept: breaks are forced also without, and both stay forced with more
 -- values returned by calls.
 use Rattle.std.proofs.Common.{◌≡◌, ℕ, List, [], ◌∷◌, ◌++◌, refl, ap, ◌∙◌}
-use Rattle.std.specs.Prelude.{Bool, true, false, ◌&&◌, Option, Some, None, slice_get, take, filter, flat_map}
+use Rattle.std.specs.Prelude.{Bool, true, false, Option, Some, None, slice_get, take, filter, flat_map}
 use Rattle.std.specs.List.{list_all}
+use Rattle.std.proofs.lemmas.Bool.{and_parts}
 use Rattle.ak_core.specs.Layout.{Layout}
 use Rattle.ak_core.specs.Mem.{Touch}
 use Rattle.ak_core.specs.declared.event.Event.{Event}
@@ -43,10 +44,6 @@ carried (Some (Miss i c)) fact e h = cc
 carried (Some (Trap i v)) fact e h = cc
 carried (Some (Break i)) fact e h = cc
 
-first_holds : (a b : Bool) → (a && b) ≡ true → a ≡ true
-first_holds true b e = refl
-first_holds false b e = cc
-
 -- lists of one turn after another, by two functions that agree on those that are taken
 module _ (f g : ProgramTurn → List Touch) (p : ProgramTurn → Bool) where
   one_alike : (turn : ProgramTurn) (older : List ProgramTurn) (b : Bool) → p turn ≡ b → (p turn ≡ true → f turn ≡ g turn) → flat_map f (filter p older) ≡ flat_map g (filter p older) → flat_map f (filter p (turn ∷ older)) ≡ flat_map g (filter p (turn ∷ older))
@@ -74,7 +71,7 @@ module _ (layout : Layout) (image returned more : List ℕ) where
       all_alike (touches_at layout longer) (touches_at layout before) (completed_since turn) older
       (each-from (λ earlier. λ older. IfCarriedOut earlier.event (ComesTo before earlier)) (λ earlier. λ older. completed_since turn earlier ≡ true → touches_at layout longer earlier ≡ touches_at layout before earlier)
       (λ earlier older here e. touches-longer layout image returned more earlier
-      (carried earlier.event (ComesTo before earlier) (first_holds (completes_by earlier.event) (is_same_stay turn earlier) e) here))
+      (carried earlier.event (ComesTo before earlier) (and_parts (completes_by earlier.event) (is_same_stay turn earlier) e).0 here))
       older came)
 
   unkept_longer : (turn : ProgramTurn) (older : List ProgramTurn) (t : Touch) → CarriedOutEach older → MayFaultUnkept layout before turn older t → MayFaultUnkept layout longer turn older t

@@ -1,6 +1,6 @@
 -- What a walk finds was reached: what completes, traps or faults where each access is walked for.
 use Rattle.std.proofs.Common.{◌≡◌, ℕ, suc, ◌+◌, ◌≤◌, List, [], ◌∷◌, ◌++◌, length, take, arith, refl, ap, sym, ◌∙◌}
-use Rattle.std.specs.Prelude.{Bool, true, false, not, if◌then◌else◌, Option, Some, None, is_some, unwrap_or, slice_get, nat_le, ◌==◌}
+use Rattle.std.specs.Prelude.{true, false, not, Option, Some, None, is_some, unwrap_or, slice_get, nat_le, ◌==◌}
 use Rattle.std.specs.List.{list_all}
 use Rattle.std.proofs.Math.Seq.{take-append_seam}
 use Rattle.std.proofs.lemmas.Bool.{le-leb, and_parts}
@@ -17,6 +17,7 @@ use Rattle.ak_model.specs.Ends.{Runs}
 use Rattle.ak_model.specs.ProgramTurns.{ProgramTurn}
 use Rattle.ak_model.specs.Reached.{reached_since, reached, touches_at, permitted_touches, MayComplete}
 use Rattle.ak_model.specs.MayFault.{may_succeed, MayFault}
+use Rattle.ak_model.proofs.Tests.{either_way}
 
 -- ---- The entering lies in the history
 
@@ -28,15 +29,11 @@ within_up : (n : ℕ) (o : Option ℕ) → Within n o → Within (suc n) o
 within_up n None h = tt
 within_up n (Some place) h = omega arith
 
-within_if : (b : Bool) (n : ℕ) (now before : Option ℕ) → Within n now → Within n before → Within n (if b then now else before)
-within_if true n now before h k = h
-within_if false n now before h k = k
-
 after_within : (change : Change) (lp n : ℕ) (before : Option ℕ) → Within n before → Within (suc n) (since_after change lp (n + 1) before)
-after_within (Enters q v) lp n before h = within_if (lp == q) (suc n) (Some (n + 1)) before (omega arith) (within_up n before h)
-after_within (Resumes q) lp n before h = within_if (lp == q) (suc n) (Some (n + 1)) before (omega arith) (within_up n before h)
-after_within (Exits q exit) lp n before h = within_if (lp == q) (suc n) None before tt (within_up n before h)
-after_within (Interrupts q) lp n before h = within_if (lp == q) (suc n) None before tt (within_up n before h)
+after_within (Enters q v) lp n before h = either_way (Within (suc n)) (lp == q) (Some (n + 1)) before (omega arith) (within_up n before h)
+after_within (Resumes q) lp n before h = either_way (Within (suc n)) (lp == q) (Some (n + 1)) before (omega arith) (within_up n before h)
+after_within (Exits q exit) lp n before h = either_way (Within (suc n)) (lp == q) None before tt (within_up n before h)
+after_within (Interrupts q) lp n before h = either_way (Within (suc n)) (lp == q) None before tt (within_up n before h)
 after_within Unchanged lp n before h = within_up n before h
 after_within (Maps p f flags) lp n before h = within_up n before h
 after_within (Blocks f) lp n before h = within_up n before h

@@ -1,7 +1,7 @@
 -- Each page of a cluster that is in was mapped at some earlier moment: at its probe, or at the build.
 use Rattle.std.proofs.Common.{◌≡◌, ◌⊎◌, inl, inr, ℕ, zero, suc, ◌<◌, List, [], ◌∷◌, ◌++◌, length, drop, arith, refl, ap, sym, ◌∙◌, subst}
-use Rattle.std.specs.Prelude.{Bool, true, false, not, ◌||◌, slice_index, if◌then◌else◌, Option, Some, None, nat_lt, ◌==◌}
-use Rattle.std.proofs.lemmas.Bool.{eqb-true, eqb-false, lt-ltb, ltb-true, or_cases}
+use Rattle.std.specs.Prelude.{Bool, true, false, not, slice_index, if◌then◌else◌, Option, Some, None, nat_lt, ◌==◌}
+use Rattle.std.proofs.lemmas.Bool.{or_right, eqb-true, eqb-false, lt-ltb, or_cases}
 use Rattle.std.proofs.lemmas.List.{drop_all}
 use Rattle.std.proofs.lemmas.Option.{slice_get-get_or}
 use Rattle.ak_core.specs.Layout.{Layout, IsValid}
@@ -14,9 +14,6 @@ use Rattle.ak_core.specs.declared.event.Event.{Event}
 use Rattle.ak_core.specs.declared.event.Event.TheVariants.{Call, Miss, Trap, Break}
 use Rattle.ak_core.specs.declared.moves.Exit.{Exit}
 use Rattle.ak_core.specs.declared.moves.Move.{Move}
-use Rattle.ak_core.specs.declared.moves.Move.TheVariants.{SetPte, ReadPte, Eblock, Etrack, Ewb, Eldu, Eldb, Eremove, Epa, Discard, Eenter, Eresume, Run, Interrupt}
-use Rattle.ak_core.specs.declared.moves.Answer.{Answer}
-use Rattle.ak_core.specs.declared.moves.Answer.TheVariants.{Ok, NoLp, Outside}
 use Rattle.ak_model.specs.Pages.{pages, permits, allows, strong, strong_kind, cluster_at, pages_of}
 use Rattle.ak_model.specs.History.{History, Pair}
 use Rattle.ak_model.specs.Walk.{touch_walkable}
@@ -28,20 +25,22 @@ use Rattle.ak_model.specs.RuntimeStep.{asked_pages, touches, first_fault, step_f
 use Rattle.ak_model.specs.ProgramStep.{due, leave_program, event_turn}
 use Rattle.ak_model.specs.Turns.{turn_of, turn, go_on, run}
 use Rattle.ak_model.specs.Inside.{inside, someone_inside}
-use Rattle.ak_model.specs.Answers.{answer, enter_answer, resume_answer, if_inside}
-use Rattle.ak_model.specs.Entering.{entered, resumed_by, interrupted_by, on_ok, on_exit}
+use Rattle.ak_model.specs.Answers.{answer}
+use Rattle.ak_model.specs.Entering.{resumed_by, interrupted_by}
 use Rattle.ak_model.specs.Trace.{Moment, step, trace}
 use Rattle.ak_model.specs.ProgramTurns.{program_turns}
 use Rattle.ak_model.specs.Forced.{queue_by}
 use Rattle.ak_model.specs.Premises.{MissesFit}
 use Rattle.ak_model.specs.Honours.{is_mapped}
 use Rattle.ak_model.specs.Orderly.{ContextFits, NowFits, SavedFits, StackFits, IsOrderly, TurnIsOrderly, after_turn}
+use Rattle.ak_model.proofs.Tests.{either_way}
+use Rattle.ak_model.proofs.Placed.{placed}
+use Rattle.ak_model.proofs.Moved.{each_move}
 use Rattle.ak_model.proofs.Clusters.{out-drop}
 use Rattle.ak_model.proofs.LostSome.{resident_walks}
 use Rattle.ak_model.proofs.OrderlySteps.{ClustersFit}
 use Rattle.ak_model.proofs.OrderlyTurns.{turn_fits}
 use Rattle.ak_model.proofs.ClusterPages.{page_stands, asked_low}
-use Rattle.ak_model.proofs.Someone.{is_someone}
 use Rattle.ak_model.proofs.ValidClusters.{clusters_fit}
 use Rattle.ak_model.proofs.Orderly.{trace_is_orderly}
 
@@ -58,12 +57,8 @@ in-append [] x c h = elim (or_cases (x == c) false h) [ inl e ↦ inr (eqb-true 
 in-append (y ∷ queue) x c h =
     elim (or_cases (y == c) (is_in (queue ++ x ∷ []) c) h) [
       | inl e ↦ inl (rw e refl)
-      | inr later ↦ elim (in-append queue x c later) [ inl i ↦ inl (either (y == c) (is_in queue c) i) | inr s ↦ inr s ]
+      | inr later ↦ elim (in-append queue x c later) [ inl i ↦ inl (or_right (y == c) (is_in queue c) i) | inr s ↦ inr s ]
     ]
-  where
-    either : (a b : Bool) → b ≡ true → (a || b) ≡ true
-    either true b e = refl
-    either false b e = e
 
 module _ (layout : Layout) where
   -- the page was mapped at some moment
@@ -142,10 +137,6 @@ module _ (layout : Layout) where
       now = now;
     }
 
-    either : (b : Bool) (t u : Turn) → TurnEver past t → TurnEver past u → TurnEver past (if b then t else u)
-    either true t u h k = h
-    either false t u h k = k
-
     lone_top : (phase : Phase) (stack : List Saved) → length stack ≡ 1 → AllProbed past phase (guard_top stack)
     lone_top phase [] h = tt
     lone_top phase (saved ∷ []) h = (tt, tt)
@@ -157,7 +148,7 @@ module _ (layout : Layout) where
     by_reason k inner (Raised v) older e h = moved _ refl refl tt
     by_reason k inner Denied older e h = moved _ refl refl tt
     by_reason k inner Broke older e h = moved _ refl refl tt
-    by_reason k inner (Faulted t) older e h = either (k == 2) _ _ (moved _ refl refl tt) (moved _ refl refl tt)
+    by_reason k inner (Faulted t) older e h = either_way (TurnEver past) (k == 2) _ _ (moved _ refl refl tt) (moved _ refl refl tt)
     by_reason k inner (Missed c) older e h =
         let fits : ContextFits layout control.phase (length older) Program = subst (ContextFits layout control.phase (length older)) h.reason.0 h.context in
         record {
@@ -294,7 +285,7 @@ module _ (layout : Layout) where
     event_ever (Some (Call i b a)) = record { queue = old.queue; stack = old.stack; now = tt }
     event_ever (Some (Miss i c)) = left_program (shown_fault layout) (Missed c)
     event_ever (Some (Break i)) = left_program (shown_fault layout) Broke
-    event_ever (Some (Trap i v)) = either (v == 14) (leave_program (shown_fault layout) Denied control) (leave_program (Exit.Vector v) (Raised v) control) (left_program (shown_fault layout) Denied) (left_program (Exit.Vector v) (Raised v))
+    event_ever (Some (Trap i v)) = either_way (TurnEver past) (v == 14) (leave_program (shown_fault layout) Denied control) (leave_program (Exit.Vector v) (Raised v) control) (left_program (shown_fault layout) Denied) (left_program (Exit.Vector v) (Raised v))
 
     turn_by : (now : Option Context) → control.now ≡ now → NowFits layout control.phase control.stack now → TurnEver past (turn_of layout past control now)
     turn_by None n h = old
@@ -350,50 +341,28 @@ module _ (layout : Layout) where
   -- ---- Moves
 
   module _ (fit : ClustersFit layout) (so_far : List ℕ) (past : History) (control : Control) (orderly : IsOrderly layout so_far (someone_inside layout past) control) (old : Ever past control) where
-    enter_step : (a : Answer) (v : ℕ) → Ever past (on_ok a control (entered control v))
-    enter_step Ok v = record { queue = old.queue; stack = old.stack; now = tt }
-    enter_step _ v = old
-
-    resume_by : (stack : List Saved) → control.stack ≡ stack → Ever past (resumed_by control stack)
-    resume_by [] e = old
-    resume_by (saved ∷ older) e =
+    resume_step : (saved : Saved) (older : List Saved) → control.stack ≡ saved ∷ older → Ever past (resumed_by control (saved ∷ older))
+    resume_step saved older e =
         let all : AllProbed past control.phase (saved ∷ older) = subst (AllProbed past control.phase) e old.stack in
         record { queue = old.queue; stack = all.1; now = all.0 }
-
-    resume_step : (a : Answer) → Ever past (on_ok a control (resumed_by control control.stack))
-    resume_step Ok = resume_by control.stack refl
-    resume_step _ = old
 
     interrupt_by : (now : Option Context) → control.now ≡ now → Ever past (interrupted_by control now)
     interrupt_by None e = old
     interrupt_by (Some context) e = record { queue = old.queue; stack = (subst (NowProbed past control.phase) e old.now, old.stack); now = tt }
 
-    interrupt_step : (a : Answer) → Ever past (on_ok a control (interrupted_by control control.now))
-    interrupt_step Ok = interrupt_by control.now refl
-    interrupt_step _ = old
-
-    run_step : (lp n : ℕ) (there within : Bool) → nat_lt lp layout.lps ≡ there → inside past lp ≡ within → (let a = if not there then NoLp else (if not within then Outside else Answer.Exit (run layout past n control).exit) in Ever past (on_exit a control (run layout past n control).control))
-    run_step lp n false within e d = old
-    run_step lp n true false e d = old
-    run_step lp n true true e d =
-        let someone = is_someone layout past lp (ltb-true lp layout.lps e) d in
-        run_ever fit past n so_far control (subst (λ b. IsOrderly layout so_far b control) someone orderly) old
-
-  move_ever : ClustersFit layout → (so_far : List ℕ) (moment : Moment) (m : Move) → IsOrderly layout so_far (someone_inside layout moment.past) moment.control → Ever moment.past moment.control → Ever moment.past (step layout moment m).control
-  move_ever fit so_far moment (Eenter lp v) orderly old = enter_step fit so_far moment.past moment.control orderly old (enter_answer layout moment.past moment.control lp.0) v
-  move_ever fit so_far moment (Eresume lp) orderly old = resume_step fit so_far moment.past moment.control orderly old (resume_answer layout moment.past moment.control lp.0)
-  move_ever fit so_far moment (Run lp n) orderly old = run_step fit so_far moment.past moment.control orderly old lp.0 n (nat_lt lp.0 layout.lps) (inside moment.past lp.0) refl refl
-  move_ever fit so_far moment (Interrupt lp) orderly old = interrupt_step fit so_far moment.past moment.control orderly old (if_inside layout moment.past lp.0 Ok)
-  move_ever fit so_far moment (SetPte p f flags) orderly old = old
-  move_ever fit so_far moment (ReadPte p) orderly old = old
-  move_ever fit so_far moment (Eblock f) orderly old = old
-  move_ever fit so_far moment Etrack orderly old = old
-  move_ever fit so_far moment (Ewb f va i) orderly old = old
-  move_ever fit so_far moment (Eldu f k p va i) orderly old = old
-  move_ever fit so_far moment (Eldb f k p va i) orderly old = old
-  move_ever fit so_far moment (Eremove f) orderly old = old
-  move_ever fit so_far moment (Epa f) orderly old = old
-  move_ever fit so_far moment (Discard k) orderly old = old
+  move_ever : ClustersFit layout → (so_far : List ℕ) (moment : Moment) (m : Move) → ((lp : ℕ) → inside moment.past lp ≡ true → nat_lt lp layout.lps ≡ true) → IsOrderly layout so_far (someone_inside layout moment.past) moment.control → Ever moment.past moment.control → Ever moment.past (step layout moment m).control
+  move_ever fit so_far moment m low orderly old =
+      let past : History = moment.past in
+      let control : Control = moment.control in
+      each_move layout moment (λ e. Ever past e.next)
+      (record {
+        quiet = old;
+        enters = λ lp v there out few. record { queue = old.queue; stack = old.stack; now = tt };
+        resumes = λ lp saved rest there out free e. resume_step fit so_far past control orderly old saved rest e;
+        interrupts = λ lp d. interrupt_by fit so_far past control orderly old control.now refl;
+        runs = λ lp n d someone. run_ever fit past n so_far control (subst (λ b. IsOrderly layout so_far b control) someone orderly) old;
+      })
+      low m
 
   -- after each move of a trace each page of what is in was mapped at some moment
   pub trace_ever : IsValid layout → (tape : List Event) → MissesFit layout (queue_at_build layout.build layout) tape → (moves : List Move) → Ever (trace layout tape moves).past (trace layout tape moves).control
@@ -401,4 +370,4 @@ module _ (layout : Layout) where
   trace_ever valid tape misses (m ∷ moves) =
       let moment : Moment = trace layout tape moves in
       ever_later (m, answer layout moment.past moment.control m) moment.past (step layout moment m).control
-      (move_ever (clusters_fit layout valid) (queue_by layout (program_turns layout tape moves)) moment m (trace_is_orderly layout valid tape misses moves) (trace_ever valid tape misses moves))
+      (move_ever (clusters_fit layout valid) (queue_by layout (program_turns layout tape moves)) moment m (λ lp. placed layout lp tape moves) (trace_is_orderly layout valid tape misses moves) (trace_ever valid tape misses moves))
