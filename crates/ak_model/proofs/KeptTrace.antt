@@ -26,7 +26,7 @@ use Rattle.ak_model.specs.Blamed.{newest_refusal, is_guard}
 use Rattle.ak_model.specs.Honours.{entered_since_ask, is_finish_now, fetched_by}
 use Rattle.ak_model.specs.BlamedMove.{changed, before_faulting, IsAskedFor}
 use Rattle.ak_model.specs.Orderly.{ContextFits, FaultFits, StackFits, probed, is_live, IsOrderly}
-use Rattle.ak_model.proofs.Moved.{Reading, reading}
+use Rattle.ak_model.proofs.Readings.{Reading, reading}
 use Rattle.ak_model.proofs.OrderlySteps.{some_asked}
 use Rattle.ak_model.proofs.OrderlyMoves.{not_refused}
 use Rattle.ak_model.proofs.Orderly.{trace_is_orderly}
