@@ -20,7 +20,8 @@ use Rattle.ak_model.specs.Blame.{is_fault, past_before_fault, resumed_at}
 use Rattle.ak_model.specs.Blamed.{refusal_or, newest_refusal, FaultStands, BlameStands, BlameStandsAt}
 use Rattle.ak_model.specs.Orderly.{refuses_by, IsOrderly, OrderlyAfter}
 use Rattle.ak_model.proofs.Placed.{placed}
-use Rattle.ak_model.proofs.Moved.{Reading, reading, each_move}
+use Rattle.ak_model.proofs.Readings.{Reading, reading}
+use Rattle.ak_model.proofs.Moved.{each_move}
 use Rattle.ak_model.proofs.OrderlySteps.{ClustersFit}
 use Rattle.ak_model.proofs.OrderlyMoves.{none_now, not_refused}
 use Rattle.ak_model.proofs.ValidClusters.{clusters_fit}

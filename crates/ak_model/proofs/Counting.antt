@@ -21,7 +21,8 @@ use Rattle.ak_model.specs.Trace.{Moment, step}
 use Rattle.ak_model.specs.Inside.{inside}
 use Rattle.ak_model.proofs.Stacks.{top_length, twice_length, bottom_length}
 use Rattle.ak_model.proofs.Tests.{either_way}
-use Rattle.ak_model.proofs.Moved.{Reading, reading, each_move}
+use Rattle.ak_model.proofs.Readings.{Reading, reading}
+use Rattle.ak_model.proofs.Moved.{each_move}
 
 module _ (layout : Layout) where
   abbrev TurnCounts : ℕ → Bool → Service → Turn → Type 0

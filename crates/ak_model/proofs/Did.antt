@@ -14,7 +14,8 @@ use Rattle.ak_model.specs.ProgramTurns.{ProgramTurn, turns_of_run}
 use Rattle.ak_model.specs.Forced.{queue_by}
 use Rattle.ak_model.specs.MovesBefore.{changed}
 use Rattle.ak_model.specs.Orderly.{IsOrderly, TurnIsOrderly, after_turn, OrderlyAfter}
-use Rattle.ak_model.proofs.Moved.{Reading, reading, each_move}
+use Rattle.ak_model.proofs.Readings.{Reading, reading}
+use Rattle.ak_model.proofs.Moved.{each_move}
 use Rattle.ak_model.proofs.OrderlySteps.{ClustersFit}
 use Rattle.ak_model.proofs.OrderlyTurns.{turn_fits}
 use Rattle.ak_model.proofs.OrderlyMoves.{none_now}

@@ -27,7 +27,7 @@ use Rattle.ak_model.specs.Honours.{entered_since_ask, is_finish_now, fetched_by}
 use Rattle.ak_model.specs.MovesBefore.{changed, moves_before_fault}
 use Rattle.ak_model.specs.BlamedMove.{IsAskedFor}
 use Rattle.ak_model.specs.Orderly.{ContextFits, FaultFits, StackFits, is_live, IsOrderly}
-use Rattle.ak_model.proofs.Moved.{Reading, reading}
+use Rattle.ak_model.proofs.Readings.{Reading, reading}
 use Rattle.ak_model.proofs.OrderlySteps.{some_asked}
 use Rattle.ak_model.proofs.OrderlyMoves.{not_refused}
 use Rattle.ak_model.proofs.Orderly.{trace_is_orderly}

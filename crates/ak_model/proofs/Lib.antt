@@ -43,6 +43,7 @@ pub mod Tests
 pub mod Stacks
 pub mod Unwalkable
 pub mod Changes
+pub mod Readings
 pub mod Someone
 pub mod Moved
 pub mod OrderlyMoves

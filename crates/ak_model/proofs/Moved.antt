@@ -1,7 +1,7 @@
 -- What a move does at a moment: nothing that the control state reads, or somebody enters, resumes, is interrupted or runs.
-use Rattle.std.proofs.Common.{◌≡◌, ℕ, ◌+◌, ◌<◌, List, [], ◌∷◌, length, map, reverse, refl, sym, ◌∙◌, subst}
-use Rattle.std.specs.Prelude.{Bool, true, false, not, if◌then◌else◌, Option, Some, None, is_some, nat_lt, ◌==◌}
-use Rattle.std.specs.List.{list_any, list_all}
+use Rattle.std.proofs.Common.{◌≡◌, ℕ, ◌<◌, List, [], ◌∷◌, length, map, reverse, refl, sym, ◌∙◌, subst}
+use Rattle.std.specs.Prelude.{Bool, true, false, not, if◌then◌else◌, Option, Some, None, nat_lt, ◌==◌}
+use Rattle.std.specs.List.{list_all}
 use Rattle.std.proofs.lemmas.Bool.{ltb-true, eqb-false}
 use Rattle.std.proofs.lemmas.List.Folds.{list_all-map}
 use Rattle.ak_core.specs.Layout.{Layout}
@@ -9,8 +9,8 @@ use Rattle.ak_core.specs.declared.moves.Move.{Move}
 use Rattle.ak_core.specs.declared.moves.Move.TheVariants.{ReadPte, Ewb, Eenter, Eresume, Run, Interrupt}
 use Rattle.ak_core.specs.declared.moves.Answer.{Answer}
 use Rattle.ak_core.specs.declared.moves.Answer.TheVariants.{Ok, NoLp, Outside, Gp, Pending}
-use Rattle.ak_model.specs.History.{History, Change, Unchanged, Enters, Resumes, Exits, Interrupts, if_ok, if_left, if_exit}
-use Rattle.ak_model.specs.Inside.{since_after, since, inside, processors, someone_inside}
+use Rattle.ak_model.specs.History.{Change, Unchanged, Enters, Resumes, Exits, Interrupts, if_ok, if_left, if_exit}
+use Rattle.ak_model.specs.Inside.{inside, someone_inside}
 use Rattle.ak_model.specs.Control.{Context, Saved, Control, cssa}
 use Rattle.ak_model.specs.Turns.{run, before_turns}
 use Rattle.ak_model.specs.Answers.{answer, enter_answer, resume_answer}
@@ -18,44 +18,11 @@ use Rattle.ak_model.specs.Entering.{entered, resumed_by, interrupted_by, on_ok, 
 use Rattle.ak_model.specs.Trace.{Moment, step}
 use Rattle.ak_model.specs.Moments.{turn_moments}
 use Rattle.ak_model.specs.ProgramTurns.{ProgramTurn, turns_of_run, turns_of_move}
-use Rattle.ak_model.specs.Counted.{saved_after, pending_after, Service, service_after}
-use Rattle.ak_model.specs.Blame.{faults, enters_at_one, resumes}
-use Rattle.ak_model.specs.Honours.{entered_after}
 use Rattle.ak_model.specs.MovesBefore.{changed}
-use Rattle.ak_model.specs.Stops.{says_stopped}
 use Rattle.ak_model.proofs.Tests.{all_of_reverse}
 use Rattle.ak_model.proofs.Changes.{ok_holds, handle_holds}
+use Rattle.ak_model.proofs.Readings.{Reading, reading}
 use Rattle.ak_model.proofs.Someone.{other, is_someone, outside_ok}
-
--- all that is read of a change to know who is inside, how the control state stands and which move is blamed; a proof that reads
--- more of it adds a field
-pub record Reading : Type 0 where
-  pub since : ℕ → ℕ → Option ℕ → Option ℕ
-  pub saved : ℕ → ℕ
-  pub pending : Bool → Bool
-  pub service : Service → Service
-  pub entered : Bool → Bool
-  pub at_one : ℕ → Bool
-  pub resumes : Bool
-  pub faults : Bool
-  pub stopped : Bool
-
-abbrev pub reading : Change → Reading
-reading c = record {
-  since = since_after c;
-  saved = saved_after c;
-  pending = pending_after c;
-  service = service_after c;
-  entered = entered_after c;
-  at_one = enters_at_one c;
-  resumes = resumes c;
-  faults = faults c;
-  stopped = says_stopped c;
-}
-
--- somebody is inside after a change of which this is read
-abbrev pub someone_then : Layout → History → Reading → Bool
-someone_then layout past change = list_any (λ lp. is_some (change.since lp (length past + 1) (since past lp))) (processors layout)
 
 -- a change of the tables alone reads as none
 abbrev IsQuiet : Change → Type 0

@@ -29,7 +29,8 @@ use Rattle.ak_model.specs.Blamed.{is_break}
 use Rattle.ak_model.specs.ProgramStep.{due}
 use Rattle.ak_model.proofs.TurnFacts.{not-broken_by}
 use Rattle.ak_model.proofs.Placed.{placed}
-use Rattle.ak_model.proofs.Moved.{Reading, reading, Effect, effect, each_move, turns_all}
+use Rattle.ak_model.proofs.Readings.{Reading, reading}
+use Rattle.ak_model.proofs.Moved.{Effect, effect, each_move, turns_all}
 use Rattle.ak_model.proofs.OrderlySteps.{ClustersFit}
 use Rattle.ak_model.proofs.OrderlyTurns.{turn_fits}
 use Rattle.ak_model.proofs.ValidClusters.{clusters_fit}

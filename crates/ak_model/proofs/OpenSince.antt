@@ -26,7 +26,7 @@ use Rattle.ak_model.proofs.Orderly.{trace_is_orderly}
 use Rattle.ak_model.proofs.PresentTrace.{counts_right}
 use Rattle.ak_model.proofs.RunEnds.{Since, probes_now}
 use Rattle.ak_model.proofs.LeftTurns.{stack_probes, stack_past, has_probing}
-use Rattle.ak_model.proofs.Moved.{Reading}
+use Rattle.ak_model.proofs.Readings.{Reading}
 use Rattle.ak_model.proofs.OrderlyMoves.{not_refused}
 use Rattle.ak_model.proofs.Did.{Finished, Holds}
 use Rattle.ak_model.proofs.StopsAt.{did_next}

@@ -10,7 +10,7 @@ use Rattle.ak_model.specs.Entering.{entered, resumed_by, interrupted_by}
 use Rattle.ak_model.specs.StepRows.{opens}
 use Rattle.ak_model.specs.Orderly.{ContextFits, NowFits, StackFits, refuses_by, is_refused, miss_of, after_miss_if, is_live, ServedBy, IsOrderly}
 use Rattle.ak_model.proofs.Someone.{entered_someone, resumed_someone}
-use Rattle.ak_model.proofs.Moved.{Reading, reading, someone_then}
+use Rattle.ak_model.proofs.Readings.{Reading, reading, someone_then}
 use Rattle.ak_model.proofs.OrderlyTurns.{pushed_served}
 
 module _ (layout : Layout) (so_far : List ℕ) where

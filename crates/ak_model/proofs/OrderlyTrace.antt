@@ -23,8 +23,9 @@ use Rattle.ak_model.specs.Queue.{queue_after}
 use Rattle.ak_model.specs.Orderly.{IsOrderly, TurnIsOrderly, after_event, after_turn, OrderlyAfter, KeepsLaws}
 use Rattle.ak_model.proofs.Queues.{queue_after-more}
 use Rattle.ak_model.proofs.Placed.{placed}
-use Rattle.ak_model.proofs.Someone.{someone_after, is_someone}
-use Rattle.ak_model.proofs.Moved.{reading, each_move}
+use Rattle.ak_model.proofs.Someone.{is_someone}
+use Rattle.ak_model.proofs.Readings.{reading, someone_then}
+use Rattle.ak_model.proofs.Moved.{each_move}
 use Rattle.ak_model.proofs.OrderlySteps.{ClustersFit}
 use Rattle.ak_model.proofs.OrderlyTurns.{turn_fits}
 use Rattle.ak_model.proofs.OrderlyMoves.{AfterChange, widen, enter_fits, resume_fits, interrupt_fits}
@@ -93,7 +94,7 @@ module _ (layout : Layout) where
           | inl s ↦
               subst (λ exit. AfterChange layout so_far past (reading (if_left exit (Exits lp exit))) ran.control) (sym s.0)
               (subst (λ b. IsOrderly layout so_far b ran.control) (sym someone) s.1)
-          | inr f ↦ widen layout so_far (someone_after layout past (if_left ran.exit (Exits lp ran.exit))) ran.control f
+          | inr f ↦ widen layout so_far (someone_then layout past (reading (if_left ran.exit (Exits lp ran.exit)))) ran.control f
         ]
 
   -- ---- Whole traces

@@ -18,8 +18,8 @@ use Rattle.ak_model.specs.ProgramStep.{due, event_turn}
 use Rattle.ak_model.specs.Turns.{turn_of, turn, Ran, go_on, run, unless_left, before_turns}
 use Rattle.ak_model.specs.Entering.{entered, resumed_by, interrupted_by}
 use Rattle.ak_model.proofs.Tests.{either_way}
-use Rattle.ak_model.proofs.Someone.{someone_after, entered_someone, resumed_someone, is_someone}
-use Rattle.ak_model.proofs.Moved.{Reading, reading, someone_then}
+use Rattle.ak_model.proofs.Someone.{entered_someone, resumed_someone, is_someone}
+use Rattle.ak_model.proofs.Readings.{Reading, reading, someone_then}
 
 -- the processor is still inside
 abbrev is_still : Exit → Bool
@@ -153,7 +153,7 @@ module _ (layout : Layout) where
     only lp q place true e out h = eqb-true q lp e
     only lp q place false e out h = absurd (let x = is_someone layout past q (ltb-true q layout.lps (low q h)) h in cc)
 
-    comes : (lp : ℕ) (next : Control) (c : Change) → ((q : ℕ) → since_after c q (length past + 1) (since past q) ≡ (if q == lp then Some (length past + 1) else since past q)) → someone_inside layout past ≡ false → is_some next.now ≡ true → someone_after layout past c ≡ true → After (reading c) next
+    comes : (lp : ℕ) (next : Control) (c : Change) → ((q : ℕ) → since_after c q (length past + 1) (since past q) ≡ (if q == lp then Some (length past + 1) else since past q)) → someone_inside layout past ≡ false → is_some next.now ≡ true → someone_then layout past (reading c) ≡ true → After (reading c) next
     comes lp next c e out some there = record {
       alone = λ p q h k. at p h ∙ sym (at q k);
       context = λ p h. some;

@@ -6,10 +6,11 @@ use Rattle.std.proofs.lemmas.Bool.{or_parts, or_from, eq-eqb, eqb-true, ltb-true
 use Rattle.ak_core.specs.Layout.{Layout}
 use Rattle.ak_core.specs.declared.moves.Answer.{Answer}
 use Rattle.ak_core.specs.declared.moves.Answer.TheVariants.{Ok, NoLp, Inside, TcsFault, Busy}
-use Rattle.ak_model.specs.History.{History, Change, Enters, Resumes}
+use Rattle.ak_model.specs.History.{History, Enters, Resumes}
 use Rattle.ak_model.specs.Inside.{since, since_after, inside, processors, someone_inside, another_inside}
 use Rattle.ak_model.specs.Answers.{finds_tcs, if_outside}
 use Rattle.ak_model.proofs.Tests.{any_in_range}
+use Rattle.ak_model.proofs.Readings.{reading, someone_then}
 
 -- the answer is none of the first check's, so that check did not hold
 pub other : (b : Bool) (x y z : Answer) → (x ≡ z → ⊥) → (if b then x else y) ≡ z → (b ≡ false) × (y ≡ z)
@@ -17,16 +18,12 @@ other true x y z ne h = absurd (ne h)
 other false x y z ne h = (refl, h)
 
 module _ (layout : Layout) where
-  -- somebody is inside after one more change
-  abbrev pub someone_after : History → Change → Bool
-  someone_after past c = list_any (λ lp. is_some (since_after c lp (length past + 1) (since past lp))) (processors layout)
-
-  pub entered_someone : (past : History) (lp v : ℕ) → lp < layout.lps → someone_after past (Enters lp v) ≡ true
+  pub entered_someone : (past : History) (lp v : ℕ) → lp < layout.lps → someone_then layout past (reading (Enters lp v)) ≡ true
   entered_someone past lp v h =
       let same : (lp == lp) ≡ true = eq-eqb lp lp refl in
       any_in_range (λ q. is_some (since_after (Enters lp v) q (length past + 1) (since past q))) layout.lps 0 lp (omega arith) (omega arith) (rw same refl)
 
-  pub resumed_someone : (past : History) (lp : ℕ) → lp < layout.lps → someone_after past (Resumes lp) ≡ true
+  pub resumed_someone : (past : History) (lp : ℕ) → lp < layout.lps → someone_then layout past (reading (Resumes lp)) ≡ true
   resumed_someone past lp h =
       let same : (lp == lp) ≡ true = eq-eqb lp lp refl in
       any_in_range (λ q. is_some (since_after (Resumes lp) q (length past + 1) (since past q))) layout.lps 0 lp (omega arith) (omega arith) (rw same refl)

@@ -20,7 +20,8 @@ use Rattle.ak_model.specs.Entering.{interrupted_by}
 use Rattle.ak_model.specs.Trace.{Moment, step}
 use Rattle.ak_model.specs.Presence.{IsPresent}
 use Rattle.ak_model.proofs.Tests.{either_way}
-use Rattle.ak_model.proofs.Moved.{Reading, reading, each_move}
+use Rattle.ak_model.proofs.Readings.{Reading, reading}
+use Rattle.ak_model.proofs.Moved.{each_move}
 
 -- the same clusters are in, and one that is asked for stays so
 pub record Kept (before next : Control) : Type 0 where

@@ -21,7 +21,8 @@ use Rattle.ak_model.proofs.ValidClusters.{clusters_fit}
 use Rattle.ak_model.proofs.Orderly.{trace_is_orderly}
 use Rattle.ak_model.proofs.RunEnds.{Since}
 use Rattle.ak_model.proofs.LeftTurns.{StopBy}
-use Rattle.ak_model.proofs.Moved.{Reading, reading, interrupted_same}
+use Rattle.ak_model.proofs.Readings.{Reading, reading}
+use Rattle.ak_model.proofs.Moved.{interrupted_same}
 use Rattle.ak_model.proofs.Did.{Holds, did}
 
 module _ (layout : Layout) (past : History) (control : Control) where

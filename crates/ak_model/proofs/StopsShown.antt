@@ -26,7 +26,8 @@ use Rattle.ak_model.specs.Orderly.{ContextFits, NowFits, PhaseFits, IsOrderly, T
 use Rattle.ak_model.specs.MovesBefore.{changed}
 use Rattle.ak_model.proofs.Tests.{either_way}
 use Rattle.ak_model.proofs.Placed.{placed}
-use Rattle.ak_model.proofs.Moved.{Reading, reading, each_move, interrupted_same}
+use Rattle.ak_model.proofs.Readings.{Reading, reading}
+use Rattle.ak_model.proofs.Moved.{each_move, interrupted_same}
 use Rattle.ak_model.proofs.OrderlySteps.{ClustersFit, first_is_some}
 use Rattle.ak_model.proofs.OrderlyTurns.{turn_fits}
 use Rattle.ak_model.proofs.ValidClusters.{clusters_fit}

@@ -19,7 +19,7 @@ use Rattle.ak_model.specs.Blame.{faults, is_fault}
 use Rattle.ak_model.specs.Blamed.{newest_refusal}
 use Rattle.ak_model.specs.BlamedMove.{told_at}
 use Rattle.ak_model.specs.Orderly.{is_live, IsOrderly}
-use Rattle.ak_model.proofs.Moved.{Reading}
+use Rattle.ak_model.proofs.Readings.{Reading}
 use Rattle.ak_model.proofs.OrderlyMoves.{not_refused}
 use Rattle.ak_model.proofs.Orderly.{trace_is_orderly}
 use Rattle.ak_model.proofs.BlamedTrace.{passed}
