@@ -1,15 +1,12 @@
 -- The flat run, an instruction further and with one more call answer.
-use Rattle.std.proofs.Common.{◌≡◌, ℕ, zero, suc, ◌+◌, List, [], ◌∷◌, ◌++◌, refl, ap, ◌∙◌, sym, add-one, Bool, true, false}
-use Rattle.std.proofs.lemmas.List.{append-nil}
-use Rattle.std.specs.Prelude.{Option, Some, None, option_and_then, option_map, ◌==◌, if◌then◌else◌}
+use Rattle.std.proofs.Common.{◌≡◌, ℕ, zero, suc, ◌+◌, List, [], ◌++◌, refl, ap, ◌∙◌, sym, add-one}
+use Rattle.std.specs.Prelude.{Option, Some, None, option_and_then, option_map}
 use Rattle.ak_core.specs.Layout.{Layout}
 use Rattle.ak_core.specs.Journal.{with_more}
-use Rattle.ak_core.specs.declared.moves.Exit.{Exit}
-use Rattle.ak_model.specs.Flat.{Flat, End, Run, step, flat_run, one_more, ended, output_of, output_at, outputs}
+use Rattle.ak_model.specs.Flat.{Flat, End, Run, step, flat_run, one_more, ended, output_of_call, output_of, output_at, outputs}
 use Rattle.ak_model.specs.Ends.{Runs}
 use Rattle.ak_model.specs.Events.{step_at}
 use Rattle.ak_model.proofs.Answered.{flat_run-longer}
-use Rattle.ak_machine.specs.Stands.{output_in}
 
 -- the run before one that is reached is reached
 run_before : (layout : Layout) (o : Option Run) (run : Run) → one_more layout o ≡ Some run → (earlier : Run) × (o ≡ Some earlier)
@@ -44,54 +41,36 @@ step_longer layout image returned more i f x e =
 
 -- ---- Outputs
 
-end_output : End → Option ℕ
-end_output (End.Next flat) = None
-end_output (End.Call b a flat) = output_in (Exit.Call b a)
-end_output (End.Vector v) = None
-
-call_output : (xs : List ℕ) (a : ℕ) (t : Bool) → xs ++ (if t then a ∷ [] else []) ≡ with_more xs (if t then Some a else None)
-call_output xs a true = refl
-call_output xs a false = append-nil xs
-
-with_output : (xs : List ℕ) (end : End) → xs ++ output_of end ≡ with_more xs (end_output end)
-unfolding end_output
-with_output xs (End.Next flat) = append-nil xs
-with_output xs (End.Call b a flat) = call_output xs a (b == 1)
-with_output xs (End.Vector v) = append-nil xs
-
 outputs_next : (layout : Layout) (image returned : List ℕ) (i : ℕ) (run : Run) → flat_run layout image returned i ≡ Some run →
-    outputs layout image returned (i + 1) ≡ with_more (outputs layout image returned i) (end_output (step layout run.flat))
+    outputs layout image returned (i + 1) ≡ with_more (outputs layout image returned i) (output_of (step layout run.flat))
 outputs_next layout image returned i run e =
     ap (outputs layout image returned) (add-one i)
-    ∙ ap (λ o. outputs layout image returned i ++ output_at layout o) e
-    ∙ with_output (outputs layout image returned i) (step layout run.flat)
+    ∙ ap (λ o. with_more (outputs layout image returned i) (output_at layout o)) e
 
 -- an instruction without a call makes no output
 pub outputs_done : (layout : Layout) (image returned shown : List ℕ) (i : ℕ) (run : Run) (after : Flat) → flat_run layout image returned i ≡ Some run →
     step layout run.flat ≡ End.Next after → outputs layout image returned i ≡ shown → outputs layout image returned (i + 1) ≡ shown
-unfolding end_output
 outputs_done layout image returned shown i run after e next made =
-    outputs_next layout image returned i run e ∙ ap (λ end. with_more (outputs layout image returned i) (end_output end)) next ∙ made
+    outputs_next layout image returned i run e ∙ ap (λ end. with_more (outputs layout image returned i) (output_of end)) next ∙ made
 
 -- a call with number 1 makes one
 pub outputs_called : (layout : Layout) (image returned shown : List ℕ) (i : ℕ) (run : Run) (b a : ℕ) (after : Flat) → flat_run layout image returned i ≡ Some run →
     step layout run.flat ≡ End.Call b a after → outputs layout image returned i ≡ shown →
-    outputs layout image returned (i + 1) ≡ with_more shown (output_in (Exit.Call b a))
-unfolding end_output
+    outputs layout image returned (i + 1) ≡ with_more shown (output_of_call b a)
 outputs_called layout image returned shown i run b a after e call made =
     outputs_next layout image returned i run e
-    ∙ ap (λ end. with_more (outputs layout image returned i) (end_output end)) call
-    ∙ ap (λ xs. with_more xs (output_in (Exit.Call b a))) made
+    ∙ ap (λ end. with_more (outputs layout image returned i) (output_of end)) call
+    ∙ ap (λ xs. with_more xs (output_of_call b a)) made
 
 -- more answers change no output up to an instruction that is reached
 pub outputs_longer : (layout : Layout) (image returned more : List ℕ) (i : ℕ) (run : Run) → flat_run layout image returned i ≡ Some run →
     outputs layout image (returned ++ more) (suc i) ≡ outputs layout image returned (suc i)
 outputs_longer layout image returned more zero run e =
     let longer = flat_run-longer layout image more returned zero run e in
-    ap (λ o. [] ++ output_at layout o) longer ∙ ap (λ o. [] ++ output_at layout o) (sym e)
+    ap (λ o. with_more [] (output_at layout o)) longer ∙ ap (λ o. with_more [] (output_at layout o)) (sym e)
 outputs_longer layout image returned more (suc i) run e =
     let earlier = run_before layout (flat_run layout image returned i) run e in
     let longer = flat_run-longer layout image more returned (suc i) run e in
-    ap (λ o. outputs layout image (returned ++ more) (suc i) ++ output_at layout o) longer
-    ∙ ap (λ xs. xs ++ output_at layout (Some run)) (outputs_longer layout image returned more i earlier.0 earlier.1)
-    ∙ ap (λ o. outputs layout image returned (suc i) ++ output_at layout o) (sym e)
+    ap (λ o. with_more (outputs layout image (returned ++ more) (suc i)) (output_at layout o)) longer
+    ∙ ap (λ xs. with_more xs (output_at layout (Some run))) (outputs_longer layout image returned more i earlier.0 earlier.1)
+    ∙ ap (λ o. with_more (outputs layout image returned (suc i)) (output_at layout o)) (sym e)

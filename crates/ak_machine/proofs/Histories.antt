@@ -6,8 +6,9 @@ use Rattle.ak_core.specs.Journal.{with_more}
 use Rattle.ak_core.specs.declared.event.Event.{Event}
 use Rattle.ak_core.specs.declared.moves.Move.{Move}
 use Rattle.ak_core.specs.declared.moves.Answer.{Answer}
+use Rattle.ak_model.specs.Outputs.{shown_by}
 use Rattle.ak_machine.specs.State.{State}
-use Rattle.ak_machine.specs.Moves.{IsMove, output_of_answer}
+use Rattle.ak_machine.specs.Moves.{IsMove}
 use Rattle.ak_machine.specs.Histories.{StandsForSome}
 
 -- a move keeps it so
@@ -19,7 +20,7 @@ still_for_some layout old new m a event moved before =
       image = before.image;
       past = (m, a) ∷ before.past;
       returned = d.values;
-      shown = with_more before.shown (output_of_answer a);
+      shown = with_more before.shown (shown_by a);
       events = with_more before.events event;
       stands = d.stands;
     }

@@ -27,6 +27,7 @@ use Rattle.ak_model.specs.Answers.{answer, finds_tcs, finds_ssa}
 use Rattle.ak_model.specs.Entering.{control_after}
 use Rattle.ak_model.specs.Flat.{flat_run}
 use Rattle.ak_model.specs.ProgramTurns.{turns_of_move}
+use Rattle.ak_model.specs.Outputs.{shown_by}
 use Rattle.ak_model.proofs.TurnFacts.{alone-reverse}
 use Rattle.ak_epcm.specs.Entries.{entry_at}
 use Rattle.ak_pte.specs.Table.{unmapped}
@@ -41,7 +42,7 @@ use Rattle.ak_machine.specs.State.{State}
 use Rattle.ak_machine.specs.Controls.{control_of, stack_in, is_inside}
 use Rattle.ak_machine.specs.Stands.{Stands, IsEntry}
 use Rattle.ak_machine.specs.SoundTurns.{IsSoundTurn}
-use Rattle.ak_machine.specs.Moves.{DoesRun, DoesMove, output_of_answer, note_of_move, runtime_note}
+use Rattle.ak_machine.specs.Moves.{DoesRun, DoesMove, note_of_move, runtime_note}
 use Rattle.ak_machine.proofs.ProgramTurns.{at}
 use Rattle.ak_machine.proofs.Alone.{still_alone, nobody}
 use Rattle.ak_machine.proofs.Runs.{reached_more, stage_reached_more}
@@ -69,7 +70,7 @@ module _ (layout : Layout) (image : List ℕ) (past : History) (s : State) (retu
   }
 
   -- a move that changed nothing
-  pub unchanged : (m : Move) (a : Answer) → change m a ≡ Unchanged → output_of_answer a ≡ None →
+  pub unchanged : (m : Move) (a : Answer) → change m a ≡ Unchanged → shown_by a ≡ None →
       ((later : List Event) → answer layout past (control_of layout s returned later) m ≡ a) →
       ((later : List Event) → control_after layout past (control_of layout s returned later) m a ≡ control_of layout s returned later) →
       ((later : List Event) → turns_of_move layout (record { past = past; control = control_of layout s returned later }) m ≡ []) →

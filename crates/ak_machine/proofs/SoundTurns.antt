@@ -5,12 +5,14 @@ use Rattle.ak_core.specs.Layout.{Layout}
 use Rattle.ak_core.specs.Journal.{with_more}
 use Rattle.ak_core.specs.declared.event.Event.{Event}
 use Rattle.ak_core.specs.declared.event.Event.TheVariants.{Call, Miss, Trap, Break}
+use Rattle.ak_model.specs.Build.{queue_at_build}
 use Rattle.ak_model.specs.Flat.{flat_run}
 use Rattle.ak_model.specs.ProgramTurns.{ProgramTurn}
 use Rattle.ak_model.specs.Reached.{ComesTo}
-use Rattle.ak_model.specs.Forced.{ReachedBy}
+use Rattle.ak_model.specs.MayFault.{MayFault}
+use Rattle.ak_model.specs.Forced.{ReachedBy, FaultsIn}
 use Rattle.ak_model.proofs.Longer.{comes-longer, completes-longer, faults-longer}
-use Rattle.ak_model.proofs.TurnFacts.{each-from}
+use Rattle.ak_model.proofs.TurnFacts.{each-from, broken-from, faults-from}
 use Rattle.ak_machine.specs.SoundTurns.{IsSoundTurn, FaultsBy, AreSound}
 
 module _ (layout : Layout) (image returned more : List ℕ) where
@@ -24,12 +26,12 @@ module _ (layout : Layout) (image returned more : List ℕ) where
 
   faults_by-longer : (turn : ProgramTurn) (event : Option Event) →
       FaultsBy layout (flat_run layout image returned) turn event → FaultsBy layout (flat_run layout image (returned ++ more)) turn event
-  faults_by-longer turn None h = tt
-  faults_by-longer turn (Some (Call i b a)) h = tt
-  faults_by-longer turn (Some (Trap i v)) h = tt
-  faults_by-longer turn (Some (Miss i c)) h = tt
-  faults_by-longer turn (Some (Break i)) h =
-      record { access = h.access; faults = faults-longer layout image returned more turn h.access h.faults; inside = h.inside }
+  faults_by-longer turn event h =
+      let queue = queue_at_build layout.build layout in
+      let before = MayFault layout (flat_run layout image returned) turn in
+      let after = MayFault layout (flat_run layout image (returned ++ more)) turn in
+      broken-from (FaultsIn layout queue before) (FaultsIn layout queue after) event
+      (faults-from layout queue before after (faults-longer layout image returned more turn)) h
 
   -- with more values
   pub sound-longer : (turns : List ProgramTurn) → AreSound layout (flat_run layout image returned) turns → AreSound layout (flat_run layout image (returned ++ more)) turns

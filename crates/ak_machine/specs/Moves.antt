@@ -17,6 +17,7 @@ use Rattle.ak_model.specs.Answers.{answer}
 use Rattle.ak_model.specs.Entering.{control_after}
 use Rattle.ak_model.specs.Premises.{IsLater}
 use Rattle.ak_model.specs.Flat.{flat_run}
+use Rattle.ak_model.specs.Outputs.{output_by, shown_by}
 use Rattle.ak_model.specs.ProgramTurns.{ProgramTurn, turn_in, turns_of_run, turns_of_move}
 use Rattle.ak_machine.specs.declared.activity.Stage.{Stage}
 use Rattle.ak_machine.specs.declared.activity.Activity.{Activity}
@@ -25,7 +26,7 @@ use Rattle.ak_machine.specs.declared.applied.RuntimeNote.{RuntimeNote}
 use Rattle.ak_machine.specs.State.{State}
 use Rattle.ak_machine.specs.Controls.{control_of, context_at}
 use Rattle.ak_machine.specs.Faults.{fault_event}
-use Rattle.ak_machine.specs.Stands.{Stands, output_in}
+use Rattle.ak_machine.specs.Stands.{Stands}
 use Rattle.ak_machine.specs.SoundTurns.{AreSound, made_by}
 
 -- ---- Notes
@@ -68,7 +69,7 @@ value_at _ = None
 -- the output that a turn shows
 abbrev pub output_at : Option Exit → Option ℕ
 output_at None = None
-output_at (Some exit) = output_in exit
+output_at (Some exit) = output_by exit
 
 -- an event, if there is one, before others
 abbrev pub first_then : Option Event → List Event → List Event
@@ -137,7 +138,7 @@ pub record RunsSoFar (layout : Layout) (image : List ℕ) (past : History) (old 
 pub record DoesRun (layout : Layout) (image : List ℕ) (past : History) (old new : State) (exit : Exit) (event : Option Event) (turns : ℕ)
     (returned shown : List ℕ) (events : List Event) : Type 0 where
   pub values : List ℕ
-  pub stands : Stands layout image (after_run past turns exit) new values (with_more shown (output_in exit)) (with_more events event)
+  pub stands : Stands layout image (after_run past turns exit) new values (with_more shown (output_by exit)) (with_more events event)
   pub traced : (later : List Event) → IsLater later new.count →
       run layout past turns (control_of layout old returned (first_then event later))
       ≡ record { exit = exit; control = control_of layout new values later }
@@ -161,16 +162,11 @@ is_still _ = false
 
 -- ---- Moves
 
--- the output that an answer shows
-abbrev pub output_of_answer : Answer → Option ℕ
-output_of_answer (Answer.Exit exit) = output_in exit
-output_of_answer _ = None
-
 -- a move after this history, with its answer and at most one event
 pub record DoesMove (layout : Layout) (image : List ℕ) (past : History) (old new : State) (m : Move) (a : Answer)
     (event : Option Event) (returned shown : List ℕ) (events : List Event) : Type 0 where
   pub values : List ℕ
-  pub stands : Stands layout image ((m, a) ∷ past) new values (with_more shown (output_of_answer a)) (with_more events event)
+  pub stands : Stands layout image ((m, a) ∷ past) new values (with_more shown (shown_by a)) (with_more events event)
   pub answered : (later : List Event) → IsLater later new.count →
       answer layout past (control_of layout old returned (first_then event later)) m ≡ a
   pub traced : (later : List Event) → IsLater later new.count →

@@ -1,30 +1,20 @@
 -- What holds of each turn of the program that a move makes.
-use Rattle.std.specs.Prelude.{◌≡◌, ℕ, true, List, [], ◌∷◌, Option, Some, None}
+use Rattle.std.specs.Prelude.{◌≡◌, ℕ, List, [], ◌∷◌, Option, None}
 use Rattle.ak_core.specs.Layout.{Layout}
-use Rattle.ak_core.specs.Mem.{Touch}
 use Rattle.ak_core.specs.declared.event.Event.{Event}
-use Rattle.ak_core.specs.declared.event.Event.TheVariants.{Break}
 use Rattle.ak_model.specs.History.{History}
-use Rattle.ak_model.specs.Pages.{cluster_at}
-use Rattle.ak_model.specs.Queue.{is_in}
 use Rattle.ak_model.specs.Build.{queue_at_build}
 use Rattle.ak_model.specs.Ends.{Runs}
 use Rattle.ak_model.specs.ProgramTurns.{ProgramTurn}
 use Rattle.ak_model.specs.MayFault.{MayFault}
-use Rattle.ak_model.specs.Forced.{EachTurn, ReachedBy, missed_by}
+use Rattle.ak_model.specs.Forced.{EachTurn, ReachedBy, FaultsIn, IfBroken, missed_by}
 use Rattle.ak_model.specs.Reached.{ComesTo}
 use Rattle.ak_machine.specs.declared.activity.Activity.{Activity}
 
--- an access of the turn may fault, though its cluster is in
-pub record FaultsIn (layout : Layout) (runs : Runs) (turn : ProgramTurn) : Type 0 where
-  pub access : Touch
-  pub faults : MayFault layout runs turn access
-  pub inside : is_in (queue_at_build layout.build layout) (cluster_at layout access.page.0) ≡ true
-
--- where a turn breaks, one of its accesses may fault
+-- where a turn breaks, one of its accesses may fault, though its cluster is in from the build on
 abbrev pub FaultsBy : Layout → Runs → ProgramTurn → Option Event → Type 0
-FaultsBy layout runs turn (Some (Break i)) = FaultsIn layout runs turn
-FaultsBy layout runs turn _ = Unit {0}
+FaultsBy layout runs turn event =
+    IfBroken event (FaultsIn layout (queue_at_build layout.build layout) (MayFault layout runs turn))
 
 -- the flat run comes to the turn's instruction; where it completes or traps, its accesses were reached; where it breaks, one
 -- of them may fault; and no cluster is missed

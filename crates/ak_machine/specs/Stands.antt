@@ -1,18 +1,17 @@
 -- What a machine stands for, after a history of moves: a place of the trace, and of the program's flat run.
-use Rattle.std.specs.Prelude.{◌≡◌, ℕ, ◌<◌, ◌≤◌, Bool, true, false, List, ◌++◌, Option, Some, None, option_and_then, ◌==◌, if◌then◌else◌}
+use Rattle.std.specs.Prelude.{◌≡◌, ℕ, ◌<◌, ◌≤◌, Bool, true, false, List, ◌++◌, Option, Some, None, option_and_then}
 use Rattle.std.specs.List.{list_all}
 use Rattle.ak_core.specs.Layout.{Layout}
 use Rattle.ak_core.specs.Journal.{with_more}
 use Rattle.ak_core.specs.Mem.{Touch, Tables}
 use Rattle.ak_core.specs.declared.event.Event.{Event}
-use Rattle.ak_core.specs.declared.moves.Exit.{Exit}
 use Rattle.ak_model.specs.Pages.{all_pages}
 use Rattle.ak_model.specs.History.{History}
 use Rattle.ak_model.specs.Holdings.{Mapping}
 use Rattle.ak_model.specs.Frames.{held, blocked_at}
 use Rattle.ak_model.specs.PageTable.{pte}
 use Rattle.ak_model.specs.Inside.{inside}
-use Rattle.ak_model.specs.Flat.{flat_run, outputs}
+use Rattle.ak_model.specs.Flat.{flat_run, output_of_call, outputs}
 use Rattle.ak_model.specs.Tape.{is_tape}
 use Rattle.ak_model.specs.Events.{completed_by, step_at, call_at, TrapsAreForced}
 use Rattle.ak_model.specs.ProgramTurns.{ProgramTurn}
@@ -43,14 +42,9 @@ pub record TapeStands (layout : Layout) (image : List ℕ) (count : ℕ) (return
 
 -- ---- Outputs
 
--- the output of an exit, if it is one
-abbrev pub output_in : Exit → Option ℕ
-output_in (Exit.Call b a) = if b == 1 then Some a else None
-output_in _ = None
-
 -- an output that was called for and is not shown yet
 abbrev pub unshown : Activity → Option ℕ
-unshown (Activity.Leaving b a) = output_in (Exit.Call b a)
+unshown (Activity.Leaving b a) = output_of_call b a
 unshown _ = None
 
 -- the part of the relation on outputs: the flat run has put out what was shown, and what is about to be

@@ -3,6 +3,7 @@
 use Rattle.std.specs.Prelude.{ℕ, zero, suc, ◌+◌, ◌-◌, ◌*◌, ◌/◌, ◌%◌, Bool, false, ◌&&◌, not, List, [], ◌∷◌, ◌++◌, length, take, drop, replicate, Option, Some, None, nat_lt, nat_le, ◌==◌, if◌then◌else◌}
 use Rattle.std.specs.List.{list_any}
 use Rattle.ak_core.specs.Layout.{Layout}
+use Rattle.ak_core.specs.Journal.{with_more}
 use Rattle.ak_core.specs.Mem.{Touch, touch}
 use Rattle.ak_core.specs.declared.page.Kind.{Kind}
 use Rattle.ak_core.specs.declared.page.Kind.TheVariants.{Read, Write, Exec}
@@ -165,17 +166,22 @@ abbrev pub flat_run : Layout → List ℕ → List ℕ → ℕ → Option Run
 flat_run layout image answers zero = Some (start layout image answers)
 flat_run layout image answers (suc i) = one_more layout (flat_run layout image answers i)
 
--- an output is the argument of a call with number 1
-abbrev pub output_of : End → List ℕ
-output_of (Call b a flat) = if b == 1 then a ∷ [] else []
-output_of _ = []
+-- the output that a call makes: the argument of one with number 1
+abbrev pub output_of_call : ℕ → ℕ → Option ℕ
+output_of_call b a = if b == 1 then Some a else None
+
+-- the output of an instruction that ends so
+abbrev pub output_of : End → Option ℕ
+output_of (Call b a flat) = output_of_call b a
+output_of _ = None
 
 -- the output of the next instruction
-abbrev pub output_at : Layout → Option Run → List ℕ
-output_at layout None = []
+abbrev pub output_at : Layout → Option Run → Option ℕ
+output_at layout None = None
 output_at layout (Some run) = output_of (step layout run.flat)
 
 -- the outputs of the first i instructions, in order
 abbrev pub outputs : Layout → List ℕ → List ℕ → ℕ → List ℕ
 outputs layout image answers zero = []
-outputs layout image answers (suc i) = outputs layout image answers i ++ output_at layout (flat_run layout image answers i)
+outputs layout image answers (suc i) =
+    with_more (outputs layout image answers i) (output_at layout (flat_run layout image answers i))

@@ -1,26 +1,25 @@
 -- The part of soundness on outputs: they are those of the program over memory never paged.
-use Rattle.std.specs.Prelude.{◌≡◌, ℕ, List, [], ◌∷◌, ◌++◌, ◌==◌, if◌then◌else◌}
+use Rattle.std.specs.Prelude.{◌≡◌, ℕ, List, ◌++◌, filter_map, Option, None}
 use Rattle.ak_core.specs.Layout.{Layout}
 use Rattle.ak_core.specs.Journal.{Journal}
 use Rattle.ak_core.specs.declared.moves.Answer.{Answer}
 use Rattle.ak_core.specs.declared.moves.Exit.{Exit}
-use Rattle.ak_model.specs.Flat.{outputs}
+use Rattle.ak_model.specs.Flat.{output_of_call, outputs}
 use Rattle.ak_model.specs.Ends.{ended_at}
 
--- the output that an exit shows: the argument of a call with number 1
-abbrev pub output_by : Exit → List ℕ
-output_by (Exit.Call b a) = if b == 1 then a ∷ [] else []
-output_by _ = []
+-- the output that an exit shows
+abbrev pub output_by : Exit → Option ℕ
+output_by (Exit.Call b a) = output_of_call b a
+output_by _ = None
 
 -- the output that an answer shows
-abbrev pub shown_by : Answer → List ℕ
+abbrev pub shown_by : Answer → Option ℕ
 shown_by (Answer.Exit exit) = output_by exit
-shown_by _ = []
+shown_by _ = None
 
 -- the outputs that were shown, in order
 abbrev pub shown_outputs : List Answer → List ℕ
-shown_outputs [] = []
-shown_outputs (a ∷ answers) = shown_by a ++ shown_outputs answers
+shown_outputs answers = filter_map shown_by answers
 
 -- a beginning of a list
 abbrev pub IsPrefixOf : List ℕ → List ℕ → Type 0

@@ -1,12 +1,12 @@
 -- A move more in a journal.
-use Rattle.std.proofs.Common.{◌≡◌, ℕ, ◌<◌, List, [], ◌∷◌, ◌++◌, refl, ap, ◌∙◌, sym, subst, Bool, true, false, append_assoc}
+use Rattle.std.proofs.Common.{◌≡◌, ℕ, ◌<◌, List, [], ◌∷◌, ◌++◌, refl, ap, ◌∙◌, sym, subst, append_assoc}
 use Rattle.std.proofs.lemmas.List.{append-nil, reverse-append}
-use Rattle.std.specs.Prelude.{Option, Some, None, option_and_then, map, reverse, ◌==◌, if◌then◌else◌}
+use Rattle.std.proofs.lemmas.List.Elements.{filter_map-append}
+use Rattle.std.specs.Prelude.{Option, Some, None, option_and_then, map, reverse}
 use Rattle.ak_core.specs.Layout.{Layout}
 use Rattle.ak_core.specs.Journal.{Journal, with_more, first_stop, SameLists}
 use Rattle.ak_core.specs.declared.event.Event.{Event}
 use Rattle.ak_core.specs.declared.moves.Move.{Move}
-use Rattle.ak_core.specs.declared.moves.Exit.{Exit}
 use Rattle.ak_core.specs.declared.moves.Answer.{Answer}
 use Rattle.ak_model.specs.Control.{Control}
 use Rattle.ak_model.specs.Flat.{flat_run, outputs}
@@ -27,7 +27,7 @@ use Rattle.ak_machine.specs.Controls.{control_of}
 use Rattle.ak_machine.specs.Stands.{unshown}
 use Rattle.ak_machine.specs.SoundTurns.{IsSoundTurn, AreSound}
 use Rattle.ak_machine.specs.Built.{IsBuilt}
-use Rattle.ak_machine.specs.Moves.{DoesMove, first_then, output_of_answer}
+use Rattle.ak_machine.specs.Moves.{DoesMove, first_then}
 use Rattle.ak_top.specs.Faithful.{Faithful}
 use Rattle.ak_top.specs.Journals.{IsJournalOn}
 use Rattle.ak_top.proofs.Returned.{returned-grows}
@@ -45,23 +45,13 @@ events_more : (events : List Event) (event : Option Event) (later : List Event) 
 events_more events None later = refl
 events_more events (Some event) later = append_assoc events (event ∷ []) later
 
-one_output : (a : ℕ) (t : Bool) → (if t then a ∷ [] else []) ++ [] ≡ with_more [] (if t then Some a else None)
-one_output a true = refl
-one_output a false = refl
+one_more_shown : (xs : List ℕ) (a : Answer) (o : Option ℕ) → shown_by a ≡ o → xs ++ shown_outputs (a ∷ []) ≡ with_more xs o
+one_more_shown xs a None e = rw e (append-nil xs)
+one_more_shown xs a (Some x) e = rw e refl
 
-shown_one : (a : Answer) → shown_by a ++ [] ≡ with_more [] (output_of_answer a)
-shown_one (Answer.Exit (Exit.Call b a)) = one_output a (b == 1)
-shown_one (Answer.Exit _) = refl
-shown_one _ = refl
-
-front_more : (front xs : List ℕ) (o : Option ℕ) → front ++ with_more xs o ≡ with_more (front ++ xs) o
-front_more front xs None = refl
-front_more front xs (Some x) = sym (append_assoc front xs (x ∷ []))
-
-shown_outputs-append : (answers : List Answer) (a : Answer) → shown_outputs (answers ++ a ∷ []) ≡ with_more (shown_outputs answers) (output_of_answer a)
-shown_outputs-append [] a = shown_one a
-shown_outputs-append (b ∷ answers) a =
-    ap (λ xs. shown_by b ++ xs) (shown_outputs-append answers a) ∙ front_more (shown_by b) (shown_outputs answers) (output_of_answer a)
+shown_outputs-append : (answers : List Answer) (a : Answer) → shown_outputs (answers ++ a ∷ []) ≡ with_more (shown_outputs answers) (shown_by a)
+shown_outputs-append answers a =
+    filter_map-append shown_by answers (a ∷ []) ∙ one_more_shown (shown_outputs answers) a (shown_by a) refl
 
 -- ---- One more move
 
@@ -106,14 +96,14 @@ module _ (layout : Layout) (image : List ℕ) (old new : State) (j : Journal) (m
 
   -- the journal with one more move
   pub one_more : (k : Journal) → k.moves ≡ j.moves ++ m ∷ [] → k.answers ≡ j.answers ++ a ∷ [] →
-      k.outputs ≡ with_more j.outputs (output_of_answer a) → k.events ≡ with_more j.events event → k.stop ≡ first_stop j.stop None →
+      k.outputs ≡ with_more j.outputs (shown_by a) → k.events ≡ with_more j.events event → k.stop ≡ first_stop j.stop None →
       Faithful layout image new k
   one_more k moves answers shown events stop =
       record {
         values = d.values;
         past = (m, a) ∷ f.past;
         stands = rw (shown, events) d.stands;
-        shown = shown ∙ ap (λ xs. with_more xs (output_of_answer a)) f.shown ∙ sym (shown_outputs-append j.answers a) ∙ ap shown_outputs (sym answers);
+        shown = shown ∙ ap (λ xs. with_more xs (shown_by a)) f.shown ∙ sym (shown_outputs-append j.answers a) ∙ ap shown_outputs (sym answers);
         answered = answers ∙ ap (λ xs. xs ++ a ∷ []) f.answered ∙ sym (reverse_first a (map (λ pair. pair.1) f.past));
         traced = λ later ok. rw (moves, events) (more_traced later ok);
         turns = d.made ++ f.turns;

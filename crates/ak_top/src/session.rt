@@ -2,10 +2,11 @@
 ghost use Rattle.std.specs.Prelude.{◌≡◌, ◌+◌, ◌<◌, ◌≤◌, ◌^◌, ◌++◌, ◌∷◌, [], ℕ, List, None, IfOk, OnOk, OnErr, IsTrue, length};
 ghost use Rattle.std.specs.List.{list_all};
 ghost use Rattle.ak_core.specs.Journal.{SameLists};
+ghost use Rattle.ak_model.specs.Outputs.{shown_by};
 ghost use Rattle.ak_machine.specs.Served.{is_served};
 ghost use Rattle.ak_machine.specs.Built.{IsBuilt};
 ghost use Rattle.ak_machine.specs.State.{state_of, layout_of};
-ghost use Rattle.ak_machine.specs.Moves.{output_of_answer, event_in};
+ghost use Rattle.ak_machine.specs.Moves.{event_in};
 ghost use Rattle.ak_top.specs.Faithful.{Faithful};
 ghost use Rattle.ak_top.specs.Journals.{IsJournalOn};
 
@@ -30,7 +31,7 @@ pub struct Session {
 
 /// The output that an answer shows.
 fn output_of(answer: Answer) -> Option<u64>
-    ensures { result ≡ output_of_answer answer }
+    ensures { result ≡ shown_by answer }
 {
     match answer {
         Answer::Exit(Exit::Call(1, argument)) => Some(argument),
