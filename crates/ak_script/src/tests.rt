@@ -1,266 +1,170 @@
 // Scripts and what they say, by the format's own text.
+ghost use Rattle.std.specs.Prelude.{◌<◌, ◌^◌, length};
+
 use super::*;
-use ak_core::{Flags, Frame, Lp, Move, Page};
 use std::alloc::Global;
 use std::test::Fail;
 
-const NONE: Flags = Flags {
-    p: false,
-    w: false,
-    x: false,
-    a: false,
-    d: false,
-};
+/// A script, and after the last `=` what comes of it: its moves, or how many they are where they are more than two; or the
+/// number of the line that is refused, and why, by its number and its word. Where two lines or words are wrong, the one that
+/// comes first in the order is told; skipped lines count. Each character is a byte, and `;` is a newline. Before `%` stands
+/// how often a line comes first, and that line.
+const CASES: &str = "\
+=[]
+;;=[]
+ \t ;\t=[]
+\r;=[]
+#;# eblock \u{ff}\0;  #run\r;=[]
+eenter 0 0;=[Eenter(Lp(0), 0)]
+eenter 1 0;=[Eenter(Lp(1), 0)]
+eenter 3 18446744073709551615=[Eenter(Lp(3), 18446744073709551615)]
+run 0 1;=[Run(Lp(0), 1)]
+run 3 1000000;=[Run(Lp(3), 1000000)]
+readpte 0;=[ReadPte(Page(0))]
+readpte 4294967295;=[ReadPte(Page(4294967295))]
+setpte 0 4294967295 -;=[SetPte(Page(0), Frame(4294967295), Flags { p: false, w: false, x: false, a: false, d: false })]
+setpte 4294967295 0 pwxad;=[SetPte(Page(4294967295), Frame(0), Flags { p: true, w: true, x: true, a: true, d: true })]
+setpte 1 2 p;=[SetPte(Page(1), Frame(2), Flags { p: true, w: false, x: false, a: false, d: false })]
+setpte 1 2 w;=[SetPte(Page(1), Frame(2), Flags { p: false, w: true, x: false, a: false, d: false })]
+setpte 1 2 x;=[SetPte(Page(1), Frame(2), Flags { p: false, w: false, x: true, a: false, d: false })]
+setpte 1 2 a;=[SetPte(Page(1), Frame(2), Flags { p: false, w: false, x: false, a: true, d: false })]
+setpte 1 2 d;=[SetPte(Page(1), Frame(2), Flags { p: false, w: false, x: false, a: false, d: true })]
+setpte 1 2 pxad;=[SetPte(Page(1), Frame(2), Flags { p: true, w: false, x: true, a: true, d: true })]
+run 0 1=[Run(Lp(0), 1)]
+run 0 1\r;=[Run(Lp(0), 1)]
+run 0 1 \r;=[Run(Lp(0), 1)]
+ \trun\t 0  1\t ;=[Run(Lp(0), 1)]
+eenter 0 7;;#;run 0 9=[Eenter(Lp(0), 7), Run(Lp(0), 9)]
+readpte 10;readpte 10;=[ReadPte(Page(10)), ReadPte(Page(10))]
+run 0 \u{b1};=1: 1 notascii
+\u{ff}run 0 1;=1: 1 notascii
+\u{80}# no comment;=1: 1 notascii
+run 0 1 # \u{80};=1: 1 notascii
+auto 1;=1: 2 unknown
+input 1;=1: 2 unknown
+eblock 8;=1: 2 unknown
+etrack;=1: 2 unknown
+etrack\r=1: 2 unknown
+eresume 0;=1: 2 unknown
+RUN 0 1;=1: 2 unknown
+runs 0 1;=1: 2 unknown
+ru 0 1;=1: 2 unknown
+run\x0b 0 1;=1: 2 unknown
+\r=1: 2 unknown
+\r\r;=1: 2 unknown
+\rrun 0 1;=1: 2 unknown
+\0;=1: 2 unknown
+run;=1: 3 words
+run 0;=1: 3 words
+run 0 1 1;=1: 3 words
+run 0 1 # turns;=1: 3 words
+eenter 0;=1: 3 words
+eenter 0 0 0;=1: 3 words
+readpte;=1: 3 words
+readpte 0 0;=1: 3 words
+setpte;=1: 3 words
+setpte 0 8;=1: 3 words
+setpte 0 8 - -;=1: 3 words
+run 0 1\r=1: 4 number
+run 0 1\r\r;=1: 4 number
+run 0 +1;=1: 4 number
+run 0 -1;=1: 4 number
+run 0 01;=1: 4 number
+run 00 1;=1: 4 number
+run 0 1x;=1: 4 number
+run 0 0x1;=1: 4 number
+run 0 1_0;=1: 4 number
+run 0 :;=1: 4 number
+run 0 /;=1: 4 number
+readpte -;=1: 4 number
+setpte 0 p p;=1: 4 number
+eenter 0 000000000000000000000000000001;=1: 4 number
+eenter 0 99999999999999999999999999999x;=1: 4 number
+eenter 4 0;=1: 5 range
+eenter 256 0;=1: 5 range
+eenter 0 18446744073709551616;=1: 5 range
+eenter 0 18446744073709551620;=1: 5 range
+eenter 0 100000000000000000000000000000;=1: 5 range
+run 4 1;=1: 5 range
+run 0 0;=1: 5 range
+run 0 1000001;=1: 5 range
+run 0 4294967297;=1: 5 range
+readpte 4294967296;=1: 5 range
+setpte 4294967296 8 p;=1: 5 range
+setpte 0 4294967296 p;=1: 5 range
+setpte 0 8 wp;=1: 7 flags
+setpte 0 8 pp;=1: 7 flags
+setpte 0 8 p-;=1: 7 flags
+setpte 0 8 --;=1: 7 flags
+setpte 0 8 P;=1: 7 flags
+setpte 0 8 r;=1: 7 flags
+setpte 0 8 pwxadp;=1: 7 flags
+eblock \u{ff};=1: 1 notascii
+eblock;=1: 2 unknown
+run x;=1: 3 words
+run 4 x;=1: 5 range
+setpte x 4294967296 r;=1: 4 number
+setpte 0 4294967296 r;=1: 5 range
+setpte 0 x r;=1: 4 number
+;# \u{ff};\t\r;run 0 1;run 0 0;eblock 8=5: 5 range
+eenter 0 1;run 0 1;auto 1=3: 2 unknown
+19999 readpte 0;%readpte 1=20000
+20000 readpte 0;%;# \u{ff};=20000
+20000 readpte 0;%;# \u{ff};readpte 1;=20003: 6 toomany
+20000 readpte 0;%readpte;=20001: 3 words
+20 #;run 0 1000000;%eenter 0 0;=21
+20 #;run 0 1000000;%run 0 1;run 0 0;=41: 6 toomany
+20 #;run 0 1000000;%run 0 0;run 0 1;=41: 5 range
+20000 run 0 1000;%\r=20001: 2 unknown";
 
-const ALL: Flags = Flags {
-    p: true,
-    w: true,
-    x: true,
-    a: true,
-    d: true,
-};
-
-// The lines one after another.
-fn repeated(alloc: Global, line: &[u8], times: u32) -> Result<Vec<u8>, Fail> {
-    let mut bytes = Vec::new(alloc);
-    for _ in 0..times {
-        bytes.extend_from_slice(line)?;
-    }
-    Ok(bytes)
-}
-
-#[test]
-fn reads_moves(rt: HostRuntime) {
-    let cases: [(&[u8], &[Move]); 26] = [
-        (b"", &[]),
-        (b"\n\n", &[]),
-        (b" \t \n\t", &[]),
-        (b"\r\n", &[]),
-        (b"#\n# eblock \xff\x00\n  #run\r\n", &[]),
-        (b"eenter 0 0\n", &[Move::Eenter(Lp(0), 0)]),
-        (b"eenter 1 0\n", &[Move::Eenter(Lp(1), 0)]),
-        (
-            b"eenter 3 18446744073709551615",
-            &[Move::Eenter(Lp(3), u64::MAX)],
-        ),
-        (b"run 0 1\n", &[Move::Run(Lp(0), 1)]),
-        (b"run 3 1000000\n", &[Move::Run(Lp(3), 1_000_000)]),
-        (b"readpte 0\n", &[Move::ReadPte(Page(0))]),
-        (b"readpte 4294967295\n", &[Move::ReadPte(Page(u32::MAX))]),
-        (
-            b"setpte 0 4294967295 -\n",
-            &[Move::SetPte(Page(0), Frame(u32::MAX), NONE)],
-        ),
-        (
-            b"setpte 4294967295 0 pwxad\n",
-            &[Move::SetPte(Page(u32::MAX), Frame(0), ALL)],
-        ),
-        (
-            b"setpte 1 2 p\n",
-            &[Move::SetPte(Page(1), Frame(2), Flags { p: true, ..NONE })],
-        ),
-        (
-            b"setpte 1 2 w\n",
-            &[Move::SetPte(Page(1), Frame(2), Flags { w: true, ..NONE })],
-        ),
-        (
-            b"setpte 1 2 x\n",
-            &[Move::SetPte(Page(1), Frame(2), Flags { x: true, ..NONE })],
-        ),
-        (
-            b"setpte 1 2 a\n",
-            &[Move::SetPte(Page(1), Frame(2), Flags { a: true, ..NONE })],
-        ),
-        (
-            b"setpte 1 2 d\n",
-            &[Move::SetPte(Page(1), Frame(2), Flags { d: true, ..NONE })],
-        ),
-        (
-            b"setpte 1 2 pxad\n",
-            &[Move::SetPte(Page(1), Frame(2), Flags { w: false, ..ALL })],
-        ),
-        (b"run 0 1", &[Move::Run(Lp(0), 1)]),
-        (b"run 0 1\r\n", &[Move::Run(Lp(0), 1)]),
-        (b"run 0 1 \r\n", &[Move::Run(Lp(0), 1)]),
-        (b" \trun\t 0  1\t \n", &[Move::Run(Lp(0), 1)]),
-        (
-            b"eenter 0 7\n\n#\nrun 0 9",
-            &[Move::Eenter(Lp(0), 7), Move::Run(Lp(0), 9)],
-        ),
-        (
-            b"readpte 10\nreadpte 10\n",
-            &[Move::ReadPte(Page(10)), Move::ReadPte(Page(10))],
-        ),
-    ];
-    for (bytes, moves) in cases {
-        assert!(rt; bytes.len() < 100);
-        match Script::read(rt.alloc(), bytes) {
-            Ok(script) => assert_eq!(rt; script.moves(), moves),
-            Err(fault) => assert!(rt; false, "{fault:?}"),
+/// Adds the bytes of a text.
+fn push_bytes(bytes: &mut Vec<u8>, text: &str) -> Result<(), Fail> {
+    for char in text.chars() {
+        match char {
+            ';' => bytes.push(b'\n')?,
+            _ => bytes.push((u32::from(char) % 256) as u8)?,
         }
-    }
-}
-
-#[test]
-fn refuses_lines(rt: HostRuntime) {
-    let cases: [(&[u8], u32, Kind); 72] = [
-        (b"run 0 \xb1\n", 1, Kind::NotAscii),
-        (b"\xffrun 0 1\n", 1, Kind::NotAscii),
-        (b"\x80# no comment\n", 1, Kind::NotAscii),
-        (b"run 0 1 # \x80\n", 1, Kind::NotAscii),
-        (b"auto 1\n", 1, Kind::Unknown),
-        (b"input 1\n", 1, Kind::Unknown),
-        (b"eblock 8\n", 1, Kind::Unknown),
-        (b"etrack\n", 1, Kind::Unknown),
-        (b"etrack\r", 1, Kind::Unknown),
-        (b"eresume 0\n", 1, Kind::Unknown),
-        (b"RUN 0 1\n", 1, Kind::Unknown),
-        (b"runs 0 1\n", 1, Kind::Unknown),
-        (b"ru 0 1\n", 1, Kind::Unknown),
-        (b"run\x0b 0 1\n", 1, Kind::Unknown),
-        (b"\r", 1, Kind::Unknown),
-        (b"\r\r\n", 1, Kind::Unknown),
-        (b"\rrun 0 1\n", 1, Kind::Unknown),
-        (b"\x00\n", 1, Kind::Unknown),
-        (b"run\n", 1, Kind::Words),
-        (b"run 0\n", 1, Kind::Words),
-        (b"run 0 1 1\n", 1, Kind::Words),
-        (b"run 0 1 # turns\n", 1, Kind::Words),
-        (b"eenter 0\n", 1, Kind::Words),
-        (b"eenter 0 0 0\n", 1, Kind::Words),
-        (b"readpte\n", 1, Kind::Words),
-        (b"readpte 0 0\n", 1, Kind::Words),
-        (b"setpte\n", 1, Kind::Words),
-        (b"setpte 0 8\n", 1, Kind::Words),
-        (b"setpte 0 8 - -\n", 1, Kind::Words),
-        (b"run 0 1\r", 1, Kind::Number),
-        (b"run 0 1\r\r\n", 1, Kind::Number),
-        (b"run 0 +1\n", 1, Kind::Number),
-        (b"run 0 -1\n", 1, Kind::Number),
-        (b"run 0 01\n", 1, Kind::Number),
-        (b"run 00 1\n", 1, Kind::Number),
-        (b"run 0 1x\n", 1, Kind::Number),
-        (b"run 0 0x1\n", 1, Kind::Number),
-        (b"run 0 1_0\n", 1, Kind::Number),
-        (b"run 0 :\n", 1, Kind::Number),
-        (b"run 0 /\n", 1, Kind::Number),
-        (b"readpte -\n", 1, Kind::Number),
-        (b"setpte 0 p p\n", 1, Kind::Number),
-        (
-            b"eenter 0 000000000000000000000000000001\n",
-            1,
-            Kind::Number,
-        ),
-        (
-            b"eenter 0 99999999999999999999999999999x\n",
-            1,
-            Kind::Number,
-        ),
-        (b"eenter 4 0\n", 1, Kind::Range),
-        (b"eenter 256 0\n", 1, Kind::Range),
-        (b"eenter 0 18446744073709551616\n", 1, Kind::Range),
-        (b"eenter 0 18446744073709551620\n", 1, Kind::Range),
-        (b"eenter 0 100000000000000000000000000000\n", 1, Kind::Range),
-        (b"run 4 1\n", 1, Kind::Range),
-        (b"run 0 0\n", 1, Kind::Range),
-        (b"run 0 1000001\n", 1, Kind::Range),
-        (b"run 0 4294967297\n", 1, Kind::Range),
-        (b"readpte 4294967296\n", 1, Kind::Range),
-        (b"setpte 4294967296 8 p\n", 1, Kind::Range),
-        (b"setpte 0 4294967296 p\n", 1, Kind::Range),
-        (b"setpte 0 8 wp\n", 1, Kind::Flags),
-        (b"setpte 0 8 pp\n", 1, Kind::Flags),
-        (b"setpte 0 8 p-\n", 1, Kind::Flags),
-        (b"setpte 0 8 --\n", 1, Kind::Flags),
-        (b"setpte 0 8 P\n", 1, Kind::Flags),
-        (b"setpte 0 8 r\n", 1, Kind::Flags),
-        (b"setpte 0 8 pwxadp\n", 1, Kind::Flags),
-        // Two at once: the one that comes first in the order.
-        (b"eblock \xff\n", 1, Kind::NotAscii),
-        (b"eblock\n", 1, Kind::Unknown),
-        (b"run x\n", 1, Kind::Words),
-        (b"run 4 x\n", 1, Kind::Range),
-        (b"setpte x 4294967296 r\n", 1, Kind::Number),
-        (b"setpte 0 4294967296 r\n", 1, Kind::Range),
-        (b"setpte 0 x r\n", 1, Kind::Number),
-        // Skipped lines count.
-        (
-            b"\n# \xff\n\t\r\nrun 0 1\nrun 0 0\neblock 8",
-            5,
-            Kind::Range,
-        ),
-        (b"eenter 0 1\nrun 0 1\nauto 1", 3, Kind::Unknown),
-    ];
-    for (bytes, line, why) in cases {
-        assert!(rt; bytes.len() < 100);
-        let fault = Script::read(rt.alloc(), bytes).err();
-        assert_eq!(rt; fault, Some(ScriptFault::Refused { line, why }), "{why:?}");
-    }
-}
-
-#[test]
-fn counts_moves_and_turns(rt: HostRuntime) -> Result<(), Fail> {
-    let cases: [(&[u8], u32, &[u8], Option<ScriptFault>); 8] = [
-        (b"readpte 0\n", 19_999, b"readpte 1", None),
-        (b"readpte 0\n", 20_000, b"\n# \xff\n", None),
-        (
-            b"readpte 0\n",
-            20_000,
-            b"\n# \xff\nreadpte 1\n",
-            refused(20_003, Kind::TooMany),
-        ),
-        (
-            b"readpte 0\n",
-            20_000,
-            b"readpte\n",
-            refused(20_001, Kind::Words),
-        ),
-        (b"#\nrun 0 1000000\n", 20, b"eenter 0 0\n", None),
-        (
-            b"#\nrun 0 1000000\n",
-            20,
-            b"run 0 1\nrun 0 0\n",
-            refused(41, Kind::TooMany),
-        ),
-        (
-            b"#\nrun 0 1000000\n",
-            20,
-            b"run 0 0\nrun 0 1\n",
-            refused(41, Kind::Range),
-        ),
-        (
-            b"run 0 1000\n",
-            20_000,
-            b"\r",
-            refused(20_001, Kind::Unknown),
-        ),
-    ];
-    for (line, times, end, fault) in cases {
-        let mut bytes = repeated(rt.alloc(), line, times)?;
-        bytes.extend_from_slice(end)?;
-        assert!(rt; bytes.len() < 1_000_000);
-        assert_eq!(rt; Script::read(rt.alloc(), &bytes).err(), fault);
     }
     Ok(())
 }
 
-fn refused(line: u32, why: Kind) -> Option<ScriptFault> {
-    Some(ScriptFault::Refused { line, why })
+/// The bytes of a script.
+fn bytes_of(alloc: Global, script: &str) -> Result<Vec<u8>, Fail> {
+    let mut bytes = Vec::new(alloc);
+    let (first, then) = script.split_once('%').unwrap_or(("0 ", script));
+    let (times, line) = first.split_once(' ').unwrap_or(("0", ""));
+    for _ in 0..times.parse::<u32>()? {
+        push_bytes(&mut bytes, line)?;
+    }
+    push_bytes(&mut bytes, then)?;
+    Ok(bytes)
+}
+
+/// What comes of a script.
+fn told(alloc: Global, bytes: &[u8]) -> Result<String, Fail>
+    requires { length bytes.now < 2 ^ 32 }
+{
+    let text = match Script::read(alloc, bytes) {
+        Ok(script) if script.moves().len() > 2 => format!(in alloc; "{}", script.moves().len())?,
+        Ok(script) => format!(in alloc; "{:?}", script.moves())?,
+        Err(ScriptFault::Refused { line, why }) => {
+            format!(in alloc; "{line}: {} {}", why.number(), why.word())?
+        }
+        Err(fault) => format!(in alloc; "{fault:?}")?,
+    };
+    Ok(text)
 }
 
 #[test]
-fn names_refusals(rt: HostRuntime) {
-    let kinds = [
-        (Kind::NotAscii, 1, "notascii"),
-        (Kind::Unknown, 2, "unknown"),
-        (Kind::Words, 3, "words"),
-        (Kind::Number, 4, "number"),
-        (Kind::Range, 5, "range"),
-        (Kind::TooMany, 6, "toomany"),
-        (Kind::Flags, 7, "flags"),
-    ];
-    for (kind, number, word) in kinds {
-        assert_eq!(rt; kind.number(), number);
-        assert_eq!(rt; kind.word(), word);
+fn each_script(rt: HostRuntime) -> Result<(), Fail> {
+    for case in CASES.split('\n') {
+        let Some((script, wanted)) = case.rsplit_once('=') else {
+            return Err(Fail::new("no outcome"));
+        };
+        let bytes = bytes_of(rt.alloc(), script)?;
+        assert!(rt; bytes.len() < 1_000_000);
+        let text = told(rt.alloc(), &bytes)?;
+        assert_eq!(rt; text.as_str(), wanted, "{case}");
     }
+    Ok(())
 }
