@@ -2,23 +2,31 @@
 ghost use Rattle.std.specs.Prelude.{◌≡◌};
 
 use std::alloc::AllocFailed;
+use thiserror::Error;
 
 /// Why a line of a script is refused.
-#[derive(Clone, Copy, PartialEq, Eq, Debug)]
+#[derive(Clone, Copy, PartialEq, Eq, Debug, Error)]
 pub enum Kind {
     /// It has a byte over 127.
+    #[error("a byte is over 127")]
     NotAscii = 1,
     /// Its first word is none of a script's words.
+    #[error("the first word is unknown")]
     Unknown = 2,
     /// Another number of words follows the first.
+    #[error("the number of words is wrong")]
     Words = 3,
     /// A word is to be a number and is none.
+    #[error("a word is no number")]
     Number = 4,
     /// A number is out of its range.
+    #[error("a number is out of its range")]
     Range = 5,
     /// With this line the moves, or their turns, are too many.
+    #[error("the moves or their turns are too many")]
     TooMany = 6,
     /// A word is to be flags and is none.
+    #[error("a word is no flags")]
     Flags = 7,
 }
 
@@ -49,9 +57,10 @@ impl Kind {
 }
 
 /// Why no script was read.
-#[derive(Clone, Copy, PartialEq, Eq, Debug)]
+#[derive(Clone, Copy, PartialEq, Eq, Debug, Error)]
 pub enum ScriptFault {
     /// The first refused line, counted from 1.
+    #[error("line {line} is refused: {why}")]
     Refused {
         /// The line.
         line: u32,
@@ -59,6 +68,7 @@ pub enum ScriptFault {
         why: Kind,
     },
     /// Memory ran out.
+    #[error("out of memory")]
     OutOfMemory,
 }
 

@@ -3,7 +3,8 @@ use Rattle.std.proofs.Common.{◌≡◌, ◌≢◌, ℕ, ◌<◌, ◌≤◌, Lis
 use Rattle.std.proofs.lemmas.Bool.{ltb-true, ltb-false}
 use Rattle.std.proofs.lemmas.Bool.Decides.{nat_tests}
 use Rattle.std.proofs.lemmas.List.{length-replicate}
-use Rattle.std.specs.Prelude.{Bool, true, false, IsTrue, IfOk, Option, Some, None, Result, Ok, Err, nat_lt, nat_le, replicate}
+use Rattle.std.proofs.lemmas.Result.{err_from_is_err_and}
+use Rattle.std.specs.Prelude.{Bool, true, false, IsTrue, IfOk, IsErrAnd, MatchResult, Option, Some, None, Result, Ok, Err, nat_lt, nat_le, replicate}
 use Rattle.std.specs.Result.{result_map_both}
 use Rattle.ak_measure.specs.Stages.{◌>>=◌}
 use Rattle.ak_core.specs.declared.moves.Move.{Move}
@@ -118,6 +119,22 @@ module _ (place : Place) (name : List ℕ) (files files' : FilesState) where
     content = content;
     tells = tells;
   }
+
+  -- the same, where the fault becomes its trouble
+  pub file_read_or : (r : Result (Vec ℕ Global) FilesFault) →
+      (IsTrue files.tells → IfOk r (λ v. files.content name ≡ Some v.items)) →
+      files'.content ≡ files.content → files'.tells ≡ files.tells →
+      (IsTrue files.tells → Asks files.asked files'.asked name r) → Hands limit files'.handed r →
+      (IsTrue files.tells → files'.handed ≤ held_length (files.content name)) →
+      CountsRead files.faults files'.faults r →
+      (given : Result (Vec ℕ Global) Trouble) →
+      MatchResult r (λ v. given ≡ Ok v) (λ f. IsErrAnd given (λ trouble. trouble ≡ trouble_of_read f place)) →
+      ReadsFile (bytes_in place) name files files' (result_map_both (λ (bytes : Vec ℕ Global). bytes.items) (λ trouble. trouble) given)
+  file_read_or (Ok v) bytes content tells asked handed within counts given is =
+      rw is (file_read (Ok v) bytes content tells asked handed within counts)
+  file_read_or (Err f) bytes content tells asked handed within counts given is =
+      let p = err_from_is_err_and given is in
+      rw (p.1, p.2) (file_read (Err f) bytes content tells asked handed within counts)
 
 -- ---- What is due, by stages
 

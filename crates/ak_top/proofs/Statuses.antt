@@ -17,7 +17,7 @@ use Rattle.ak_top.specs.declared.trouble.Trouble.TheVariants.{Usage, ReadFailed,
 
 -- ---- Without a command
 
-pub serves_usage : (files : FilesState) (out err err' : SinkState) → Told err.taken err'.taken err.faults err'.faults (line_of Usage None) → Serves 2 None files files out out err err'
+pub serves_usage : (files : FilesState) (out err err' : SinkState) → Told err err' (line_of Usage None) → Serves 2 None files files out out err err'
 serves_usage files out err err' told = record {
   seen = record { image = None; signers = None; script = None };
   sees = λ t. record { image = inl refl; signers = inl refl; script = inl refl };

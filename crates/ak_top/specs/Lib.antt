@@ -2,8 +2,8 @@ pub mod Words
 pub mod CommandGiven
 pub mod Refusals
 pub mod Trouble
-pub mod Told
 pub mod Seen
+pub mod Told
 pub mod Inputs
 pub mod Reads
 pub mod Report

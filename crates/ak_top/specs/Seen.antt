@@ -1,6 +1,8 @@
 -- Files and sinks at a moment, and what a command sees of its files.
 use Rattle.std.specs.Prelude.{◌≡◌, ℕ, ◌⊎◌, Bool, List, Option, Some, None}
 use Rattle.ak_outside.specs.Causes.{Rose}
+use Rattle.ak_outside.specs.declared.files.Files.{Ghosts as IsFiles}
+use Rattle.ak_outside.specs.declared.sink.Sink.{Ghosts as IsSink}
 use Rattle.ak_top.specs.Words.{Command, Run, Measure}
 
 -- files at a moment: what is said of content and names counts only where they tell
@@ -11,17 +13,17 @@ pub record FilesState : Type 0 where
   pub faults : ℕ
   pub handed : ℕ  -- by the last read
 
-abbrev pub files_at : {F : Type 0} → (F → Bool) → (F → List ℕ → Option (List ℕ)) → (F → List (List ℕ)) → (F → ℕ) → (F → ℕ) → F → FilesState
-files_at tells content asked faults handed files =
-    record { tells = tells files; content = content files; asked = asked files; faults = faults files; handed = handed files }
+abbrev pub files_at : {F : Type 0} → IsFiles F → F → FilesState
+files_at is files =
+    record { tells = is.tells files; content = is.content files; asked = is.asked files; faults = is.faults files; handed = is.handed files }
 
 -- a sink at a moment: what it took so far, where it tells that
 pub record SinkState : Type 0 where
   pub taken : Option (List ℕ)
   pub faults : ℕ
 
-abbrev pub sink_at : {S : Type 0} → (S → Option (List ℕ)) → (S → ℕ) → S → SinkState
-sink_at taken faults sink = record { taken = taken sink; faults = faults sink }
+abbrev pub sink_at : {S : Type 0} → IsSink S → S → SinkState
+sink_at is sink = record { taken = is.taken sink; faults = is.faults sink }
 
 -- ---- A command's files
 

@@ -18,7 +18,7 @@ status_by (Err trouble) = status_of trouble
 -- what the sink for errors took: it was let alone, or took the line of the trouble, or a front of it at a fault
 abbrev pub Tells : Result (Unit {0}) Trouble → Option Command → SinkState → SinkState → Type 0
 Tells (Ok u) command err err' = err' ≡ err
-Tells (Err trouble) command err err' = Told err.taken err'.taken err.faults err'.faults (line_of trouble command)
+Tells (Err trouble) command err err' = Told err err' (line_of trouble command)
 
 -- what a call that gave this status did, with the command that its words give
 pub record Serves (status : ℕ) (command : Option Command) (files files' : FilesState) (out out' err err' : SinkState) : Type 0 where

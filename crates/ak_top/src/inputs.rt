@@ -38,65 +38,39 @@ fn read_file<F: Files>(
 ) -> Result<Vec<u8>, Trouble>
     ensures short { IfOk result (λ bytes. length bytes.items ≤ LIMIT) }
     ensures reads { ReadsFile (bytes_in place) name.now
-        (files_at F.tells F.content F.asked F.faults F.handed files.old)
-        (files_at F.tells F.content F.asked F.faults F.handed files.new)
+        (files_at F.Files files.old) (files_at F.Files files.new)
         (result_map_both (λ bytes. bytes.items) (λ trouble. trouble) result) }
 {
-    match files.read(alloc, name, LIMIT) {
-        Ok(bytes) => Ok(bytes),
-        Err(fault) => Err(Trouble::of_read(fault, place)),
-    }
+    files
+        .read(alloc, name, LIMIT)
+        .map_err(|fault| Trouble::of_read(fault, place))
 }
 
 /// The image of a file.
 pub fn read_image<F: Files>(alloc: Global, name: &str, files: &mut F) -> Result<Image, Trouble>
     ensures { ReadsFile image_in name.now
-        (files_at F.tells F.content F.asked F.faults F.handed files.old)
-        (files_at F.tells F.content F.asked F.faults F.handed files.new)
-        result }
+        (files_at F.Files files.old) (files_at F.Files files.new) result }
 {
-    let bytes = match read_file(alloc, Place::Image, name, files) {
-        Ok(bytes) => bytes,
-        Err(trouble) => return Err(trouble),
-    };
-    match Image::read(alloc, &bytes) {
-        Ok(image) => Ok(image),
-        Err(fault) => Err(Trouble::of_image(fault)),
-    }
+    let bytes = read_file(alloc, Place::Image, name, files)?;
+    Ok(Image::read(alloc, &bytes)?)
 }
 
 /// The signers of a file.
 fn read_signers<F: Files>(alloc: Global, name: &str, files: &mut F) -> Result<Signers, Trouble>
     ensures { ReadsFile signers_in name.now
-        (files_at F.tells F.content F.asked F.faults F.handed files.old)
-        (files_at F.tells F.content F.asked F.faults F.handed files.new)
-        result }
+        (files_at F.Files files.old) (files_at F.Files files.new) result }
 {
-    let bytes = match read_file(alloc, Place::Signers, name, files) {
-        Ok(bytes) => bytes,
-        Err(trouble) => return Err(trouble),
-    };
-    match Signers::read(alloc, &bytes) {
-        Ok(signers) => Ok(signers),
-        Err(fault) => Err(Trouble::of_signers(fault)),
-    }
+    let bytes = read_file(alloc, Place::Signers, name, files)?;
+    Ok(Signers::read(alloc, &bytes)?)
 }
 
 /// The script of a file.
 fn read_script<F: Files>(alloc: Global, name: &str, files: &mut F) -> Result<Script, Trouble>
     ensures { ReadsFile moves_in name.now
-        (files_at F.tells F.content F.asked F.faults F.handed files.old)
-        (files_at F.tells F.content F.asked F.faults F.handed files.new)
-        result }
+        (files_at F.Files files.old) (files_at F.Files files.new) result }
 {
-    let bytes = match read_file(alloc, Place::Script, name, files) {
-        Ok(bytes) => bytes,
-        Err(trouble) => return Err(trouble),
-    };
-    match Script::read(alloc, &bytes) {
-        Ok(script) => Ok(script),
-        Err(fault) => Err(Trouble::of_script(fault)),
-    }
+    let bytes = read_file(alloc, Place::Script, name, files)?;
+    Ok(Script::read(alloc, &bytes)?)
 }
 
 /// The inputs of a run's files: the first trouble ends the reading.
@@ -106,22 +80,11 @@ pub fn read_inputs<F: Files>(
     files: &mut F,
 ) -> Result<Inputs, Trouble>
     ensures { Reads inputs_in (Run (names_given names.entry))
-        (files_at F.tells F.content F.asked F.faults F.handed files.old)
-        (files_at F.tells F.content F.asked F.faults F.handed files.new)
-        result }
+        (files_at F.Files files.old) (files_at F.Files files.new) result }
 {
-    let image = match read_image(alloc, names.image, files) {
-        Ok(image) => image,
-        Err(trouble) => return Err(trouble),
-    };
-    let signers = match read_signers(alloc, names.signers, files) {
-        Ok(signers) => signers,
-        Err(trouble) => return Err(trouble),
-    };
-    let script = match read_script(alloc, names.script, files) {
-        Ok(script) => script,
-        Err(trouble) => return Err(trouble),
-    };
+    let image = read_image(alloc, names.image, files)?;
+    let signers = read_signers(alloc, names.signers, files)?;
+    let script = read_script(alloc, names.script, files)?;
     Ok(Inputs {
         image,
         signers,

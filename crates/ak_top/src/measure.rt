@@ -11,14 +11,12 @@ use std::alloc::Global;
 
 /// Writes a digest in lower-case hexadecimal digits, and a newline.
 fn write_digest<O: Sink>(digest: &[u8; 32], out: &mut O) -> Result<(), Trouble>
-    ensures { WritesText result (digest_text digest.now) (sink_at O.taken O.faults out.old) (sink_at O.taken O.faults out.new) }
+    ensures { WritesText result (digest_text digest.now) (sink_at O.Sink out.old) (sink_at O.Sink out.new) }
 {
     let mut digits = [0u8; 64];
     let _ = hex::encode_to_slice(digest.as_slice(), &mut digits);
-    match write_two(out, &digits, b"\n") {
-        Ok(()) => Ok(()),
-        Err(_) => Err(Trouble::WriteFailed),
-    }
+    write_two(out, &digits, b"\n")?;
+    Ok(())
 }
 
 /// Reads an image, and writes its measurement.
@@ -29,13 +27,9 @@ pub fn measure_command<F: Files, O: Sink>(
     out: &mut O,
 ) -> Result<(), Trouble>
     ensures { Does (Measure name.now)
-        (files_at F.tells F.content F.asked F.faults F.handed files.old)
-        (files_at F.tells F.content F.asked F.faults F.handed files.new)
-        (sink_at O.taken O.faults out.old) (sink_at O.taken O.faults out.new) result }
+        (files_at F.Files files.old) (files_at F.Files files.new)
+        (sink_at O.Sink out.old) (sink_at O.Sink out.new) result }
 {
-    let image = match read_image(alloc, name, files) {
-        Ok(image) => image,
-        Err(trouble) => return Err(trouble),
-    };
+    let image = read_image(alloc, name, files)?;
     write_digest(&image.digest(), out)
 }

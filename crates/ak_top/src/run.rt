@@ -11,7 +11,7 @@ use crate::report::report_text;
 use crate::session::run_moves;
 use crate::trouble::Trouble;
 use crate::words::Names;
-use ak_core::{Journal, OutOfMemory};
+use ak_core::Journal;
 use ak_machine::Machine;
 use ak_outside::{Files, Sink, write_lines};
 use std::alloc::Global;
@@ -24,16 +24,11 @@ const PROCESSORS: u8 = 1;
 
 /// Writes the report of a journal, a line in each write, after all memory was taken.
 fn write_report<O: Sink>(alloc: Global, journal: &Journal, out: &mut O) -> Result<(), Trouble>
-    ensures { WritesText result (report_of journal.now) (sink_at O.taken O.faults out.old) (sink_at O.taken O.faults out.new) }
+    ensures { WritesText result (report_of journal.now) (sink_at O.Sink out.old) (sink_at O.Sink out.new) }
 {
-    let text = match report_text(alloc, journal) {
-        Ok(text) => text,
-        Err(_) => return Err(Trouble::OutOfMemory),
-    };
-    match write_lines(out, text.as_bytes()) {
-        Ok(()) => Ok(()),
-        Err(_) => Err(Trouble::WriteFailed),
-    }
+    let text = report_text(alloc, journal)?;
+    write_lines(out, text.as_bytes())?;
+    Ok(())
 }
 
 /// The journal of a run: the enclave is built of the image, where its signer allows that, and the script's moves are applied
@@ -42,14 +37,8 @@ fn run_inputs(alloc: Global, inputs: &Inputs) -> Result<Journal, Trouble>
     ensures { Runs result inputs.now }
 {
     let frames = BUILD_FRAMES + inputs.image.pages();
-    let machine = match Machine::build(alloc, &inputs.image, &inputs.signers, frames, PROCESSORS) {
-        Ok(machine) => machine,
-        Err(fault) => return Err(Trouble::of_build(fault)),
-    };
-    match run_moves(alloc, machine, inputs.script.moves()) {
-        Ok(journal) => Ok(journal),
-        Err(OutOfMemory) => Err(Trouble::OutOfMemory),
-    }
+    let machine = Machine::build(alloc, &inputs.image, &inputs.signers, frames, PROCESSORS)?;
+    Ok(run_moves(alloc, machine, inputs.script.moves())?)
 }
 
 /// Reads a run's files, applies the script's moves to the image's enclave, and writes the report.
@@ -60,17 +49,10 @@ pub fn run_command<F: Files, O: Sink>(
     out: &mut O,
 ) -> Result<(), Trouble>
     ensures { Does (Run (names_given names.entry))
-        (files_at F.tells F.content F.asked F.faults F.handed files.old)
-        (files_at F.tells F.content F.asked F.faults F.handed files.new)
-        (sink_at O.taken O.faults out.old) (sink_at O.taken O.faults out.new) result }
+        (files_at F.Files files.old) (files_at F.Files files.new)
+        (sink_at O.Sink out.old) (sink_at O.Sink out.new) result }
 {
-    let inputs = match read_inputs(alloc, names, files) {
-        Ok(inputs) => inputs,
-        Err(trouble) => return Err(trouble),
-    };
-    let journal = match run_inputs(alloc, &inputs) {
-        Ok(journal) => journal,
-        Err(trouble) => return Err(trouble),
-    };
+    let inputs = read_inputs(alloc, names, files)?;
+    let journal = run_inputs(alloc, &inputs)?;
     write_report(alloc, &journal, out)
 }

@@ -21,9 +21,8 @@ fn do_command<F: Files, O: Sink>(
     out: &mut O,
 ) -> Result<(), Trouble>
     ensures { Does (command_given command.entry)
-        (files_at F.tells F.content F.asked F.faults F.handed files.old)
-        (files_at F.tells F.content F.asked F.faults F.handed files.new)
-        (sink_at O.taken O.faults out.old) (sink_at O.taken O.faults out.new) result }
+        (files_at F.Files files.old) (files_at F.Files files.new)
+        (sink_at O.Sink out.old) (sink_at O.Sink out.new) result }
 {
     match command {
         Command::Run(names) => run_command(alloc, names, files, out),
@@ -45,10 +44,9 @@ pub fn autarky<F: Files, O: Sink, E: Sink>(
     err: &mut E,
 ) -> u8
     ensures { Serves result (words_of (map string_bytes words.now))
-        (files_at F.tells F.content F.asked F.faults F.handed files.old)
-        (files_at F.tells F.content F.asked F.faults F.handed files.new)
-        (sink_at O.taken O.faults out.old) (sink_at O.taken O.faults out.new)
-        (sink_at E.taken E.faults err.old) (sink_at E.taken E.faults err.new) }
+        (files_at F.Files files.old) (files_at F.Files files.new)
+        (sink_at O.Sink out.old) (sink_at O.Sink out.new)
+        (sink_at E.Sink err.old) (sink_at E.Sink err.new) }
 {
     let Some(command) = read_words(words) else {
         return tell(err, Trouble::Usage, None);

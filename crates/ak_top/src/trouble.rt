@@ -5,16 +5,19 @@ ghost use Rattle.ak_outside.specs.Causes.{Counts};
 ghost use Rattle.ak_outside.specs.Taken.{with_more, TakesFront};
 ghost use Rattle.ak_top.specs.CommandGiven.{command_given};
 ghost use Rattle.ak_top.specs.Refusals.{image_refusal, signers_refusal, script_refusal, page_of as the_page};
+ghost use Rattle.ak_top.specs.Seen.{sink_at};
 ghost use Rattle.ak_top.specs.Told.{Told};
+ghost use Rattle.ak_top.specs.declared.trouble.Trouble.TheVariants.{WriteFailed, OutOfMemory as NoMemory};
 ghost use Rattle.ak_top.specs.Trouble.{trouble_of_read, trouble_of_image, trouble_of_signers, trouble_of_script, trouble_of_build, status_of, name_at, head_of, place_of, tail_of, line_of};
 
 use crate::words::{Command, Names};
-use ak_core::{BuildFault, Page};
+use ak_core::{BuildFault, OutOfMemory, Page};
 use ak_image::ImageFault;
 use ak_measure::SignersFault;
 use ak_outside::{FilesFault, Sink, SinkFault, write_three, write_two};
 use ak_script::{Kind, ScriptFault};
 use itoa::Buffer;
+use std::alloc::AllocError;
 
 const USAGE: &str =
     "usage: autarky run IMAGE SIGNERS SCRIPT [--frames N] [--processors N] or measure IMAGE or demo NUMBER";
@@ -67,47 +70,6 @@ impl Trouble {
         }
     }
 
-    /// The trouble of bytes that are no image.
-    pub fn of_image(fault: ImageFault) -> Trouble
-        ensures { result ≡ trouble_of_image fault }
-    {
-        match fault {
-            ImageFault::OutOfMemory => Trouble::OutOfMemory,
-            _ => Trouble::ImageRefused(fault),
-        }
-    }
-
-    /// The trouble of bytes that are no signers.
-    pub fn of_signers(fault: SignersFault) -> Trouble
-        ensures { result ≡ trouble_of_signers fault }
-    {
-        match fault {
-            SignersFault::OutOfMemory => Trouble::OutOfMemory,
-            _ => Trouble::SignersRefused(fault),
-        }
-    }
-
-    /// The trouble of bytes that are no script.
-    pub fn of_script(fault: ScriptFault) -> Trouble
-        ensures { result ≡ trouble_of_script fault }
-    {
-        match fault {
-            ScriptFault::OutOfMemory => Trouble::OutOfMemory,
-            ScriptFault::Refused { line, why } => Trouble::ScriptRefused(line, why),
-        }
-    }
-
-    /// The trouble of an image that is not built.
-    pub fn of_build(fault: BuildFault) -> Trouble
-        ensures { result ≡ trouble_of_build fault }
-    {
-        match fault {
-            BuildFault::UnknownSigner => Trouble::UnknownSigner,
-            BuildFault::MeasurementNotSigned => Trouble::NotSigned,
-            BuildFault::OutOfMemory => Trouble::OutOfMemory,
-        }
-    }
-
     /// The status with which the program ends.
     pub fn status(self) -> u8
         ensures { result ≡ status_of self }
@@ -141,6 +103,82 @@ impl Trouble {
             Trouble::WriteFailed => "write failed",
             Trouble::OutOfMemory => "out of memory",
         }
+    }
+}
+
+/// Bytes that are no image.
+impl From<ImageFault> for Trouble {
+    ghost from_gives = { λ fault trouble. trouble ≡ trouble_of_image fault };
+
+    fn from(fault: ImageFault) -> Trouble {
+        match fault {
+            ImageFault::OutOfMemory => Trouble::OutOfMemory,
+            _ => Trouble::ImageRefused(fault),
+        }
+    }
+}
+
+/// Bytes that are no signers.
+impl From<SignersFault> for Trouble {
+    ghost from_gives = { λ fault trouble. trouble ≡ trouble_of_signers fault };
+
+    fn from(fault: SignersFault) -> Trouble {
+        match fault {
+            SignersFault::OutOfMemory => Trouble::OutOfMemory,
+            _ => Trouble::SignersRefused(fault),
+        }
+    }
+}
+
+/// Bytes that are no script.
+impl From<ScriptFault> for Trouble {
+    ghost from_gives = { λ fault trouble. trouble ≡ trouble_of_script fault };
+
+    fn from(fault: ScriptFault) -> Trouble {
+        match fault {
+            ScriptFault::OutOfMemory => Trouble::OutOfMemory,
+            ScriptFault::Refused { line, why } => Trouble::ScriptRefused(line, why),
+        }
+    }
+}
+
+/// An image that is not built.
+impl From<BuildFault> for Trouble {
+    ghost from_gives = { λ fault trouble. trouble ≡ trouble_of_build fault };
+
+    fn from(fault: BuildFault) -> Trouble {
+        match fault {
+            BuildFault::UnknownSigner => Trouble::UnknownSigner,
+            BuildFault::MeasurementNotSigned => Trouble::NotSigned,
+            BuildFault::OutOfMemory => Trouble::OutOfMemory,
+        }
+    }
+}
+
+/// A piece that a sink did not take.
+impl From<SinkFault> for Trouble {
+    ghost from_gives = { λ _ trouble. trouble ≡ WriteFailed };
+
+    fn from(_: SinkFault) -> Trouble {
+        Trouble::WriteFailed
+    }
+}
+
+/// A move for which there is no memory.
+impl From<OutOfMemory> for Trouble {
+    ghost from_gives = { λ _ trouble. trouble ≡ NoMemory };
+
+    fn from(_: OutOfMemory) -> Trouble {
+        Trouble::OutOfMemory
+    }
+}
+
+/// A text for which there is no memory.
+impl From<AllocError> for Trouble {
+    ghost from_gives = { λ _ trouble. trouble ≡ NoMemory };
+
+    fn from(_: AllocError) -> Trouble {
+        Trouble::OutOfMemory
     }
 }
 
@@ -231,12 +269,8 @@ fn write_reason<E: Sink>(err: &mut E, why: Kind) -> Result<(), SinkFault>
 {
     let mut buffer = Buffer::new();
     let number = buffer.format(why.number());
-    if let Err(fault) = write_three(err, b": ", number.as_bytes(), b" ") {
-        return Err(fault);
-    }
-    if let Err(fault) = write_two(err, why.word().as_bytes(), b"\n") {
-        return Err(fault);
-    }
+    write_three(err, b": ", number.as_bytes(), b" ")?;
+    write_two(err, why.word().as_bytes(), b"\n")?;
     Ok(())
 }
 
@@ -264,18 +298,14 @@ fn write_line<E: Sink>(
 {
     let mut buffer = Buffer::new();
     let place = place_text(&mut buffer, trouble, command);
-    if let Err(fault) = write_two(err, trouble.head().as_bytes(), place.as_bytes()) {
-        return Err(fault);
-    }
-    if let Err(fault) = write_tail(err, trouble) {
-        return Err(fault);
-    }
+    write_two(err, trouble.head().as_bytes(), place.as_bytes())?;
+    write_tail(err, trouble)?;
     Ok(())
 }
 
 /// Tells a trouble by its line, as far as the sink takes it, and gives its status.
 pub fn tell<E: Sink>(err: &mut E, trouble: Trouble, command: Option<Command<'_>>) -> u8
-    ensures line { Told (E.taken err.old) (E.taken err.new) (E.faults err.old) (E.faults err.new) (line_of trouble (option_map command_given command.entry)) }
+    ensures line { Told (sink_at E.Sink err.old) (sink_at E.Sink err.new) (line_of trouble (option_map command_given command.entry)) }
     ensures status { result ≡ status_of trouble }
 {
     let _ = write_line(err, trouble, command);

@@ -1,3 +1,4 @@
+use Rattle.std.proofs.lemmas.Result.{err_from_is_err_and}
 use Rattle.std.specs.Prelude.{Ok}
 use Rattle.ak_image.specs.Reading.{image_of}
 use Rattle.ak_top.specs.Inputs.{or_trouble, image_in}
@@ -6,20 +7,24 @@ use Rattle.ak_top.specs.declared.trouble.Trouble.TheVariants.{ImageRefused}
 use Rattle.ak_top.proofs.FileReads.{not_read, then_said, value_due, image_due, image_read}
 use Rattle.ak_top.proofs.inputs.read_image.Goals as goal
 
-pub returns-in-Err : goal.returns-in-Err
+pub returns-in_err-bytes : goal.returns-in_err-bytes
 unfolding image_in
-returns-in-Err g c = not_read place.Image _ _ _ (λ bytes. or_trouble ImageRefused (image_of bytes)) c.in-Err.trouble c.in-Err.ensures.reads
+returns-in_err-bytes g c =
+    let p = err_from_is_err_and c.from_residual.result c.from_residual.ensures.1 in
+    rw (p.1, p.2) (not_read place.Image _ _ _ (λ bytes. or_trouble ImageRefused (image_of bytes)) c.in_err-bytes.field-0.0 c.in_err-bytes.ensures.reads)
 
-pub returns-in-Ok-read : goal.returns-in-Ok-read
+pub returns-in_err-read : goal.returns-in_err-read
 unfolding image_in
-returns-in-Ok-read g c =
-    let value = rw c.deref.ensures.value at c.in-Ok-read.ensures.image in
-    then_said place.Image _ _ _ (λ bytes. or_trouble ImageRefused (image_of bytes)) c.in-Ok.bytes.items (Ok c.in-Ok-read.image) c.in-Ok.ensures.reads
-    (value_due ImageRefused _ _ value) tt
+returns-in_err-read g c =
+    let p = err_from_is_err_and c.from_residual-in_err-read.result c.from_residual-in_err-read.ensures.1 in
+    let refused = rw c.deref.ensures.value at c.in_err-read.ensures.refusal in
+    let fault = c.in_err-read.field-0.0 in
+    rw (p.1, p.2) (then_said place.Image _ _ _ (λ bytes. or_trouble ImageRefused (image_of bytes)) c.in_ok-bytes.bytes.items _ c.in_ok-bytes.ensures.reads
+    (image_due _ fault refused) (image_read fault))
 
 pub returns : goal.returns
 unfolding image_in
 returns g c =
-    let refused = rw c.deref.ensures.value at c.in-Err-read.ensures.refusal in
-    rw c.of_image.ensures (then_said place.Image _ _ _ (λ bytes. or_trouble ImageRefused (image_of bytes)) c.in-Ok.bytes.items _ c.in-Ok.ensures.reads
-    (image_due _ c.in-Err-read.fault refused) (image_read c.in-Err-read.fault))
+    let value = rw c.deref.ensures.value at c.in_ok-read.ensures.image in
+    then_said place.Image _ _ _ (λ bytes. or_trouble ImageRefused (image_of bytes)) c.in_ok-bytes.bytes.items (Ok c.in_ok-read.field-0) c.in_ok-bytes.ensures.reads
+    (value_due ImageRefused _ _ value) tt

@@ -1,4 +1,5 @@
 use Rattle.std.proofs.Common.{ap}
+use Rattle.std.proofs.lemmas.Result.{err_from_is_err_and}
 use Rattle.std.specs.Prelude.{Ok, Err}
 use Rattle.ak_script.specs.Script.{script_of}
 use Rattle.ak_top.specs.Inputs.{or_trouble, script_trouble, moves_in}
@@ -6,20 +7,24 @@ use Rattle.ak_top.specs.declared.trouble.Place.TheVariants as place
 use Rattle.ak_top.proofs.FileReads.{not_read, then_said, value_due, script_due, script_read}
 use Rattle.ak_top.proofs.inputs.read_script.Goals as goal
 
-pub returns-in-Err : goal.returns-in-Err
+pub returns-in_err-bytes : goal.returns-in_err-bytes
 unfolding moves_in
-returns-in-Err g c = not_read place.Script _ _ _ (λ bytes. or_trouble script_trouble (script_of bytes)) c.in-Err.trouble c.in-Err.ensures.reads
+returns-in_err-bytes g c =
+    let p = err_from_is_err_and c.from_residual.result c.from_residual.ensures.1 in
+    rw (p.1, p.2) (not_read place.Script _ _ _ (λ bytes. or_trouble script_trouble (script_of bytes)) c.in_err-bytes.field-0.0 c.in_err-bytes.ensures.reads)
 
-pub returns-in-Ok-read : goal.returns-in-Ok-read
+pub returns-in_err-read : goal.returns-in_err-read
 unfolding moves_in
-returns-in-Ok-read g c =
-    let value = rw c.deref.ensures.value at c.in-Ok-read.ensures.read in
-    then_said place.Script _ _ _ (λ bytes. or_trouble script_trouble (script_of bytes)) c.in-Ok.bytes.items (Ok c.in-Ok-read.script) c.in-Ok.ensures.reads
-    (value_due script_trouble _ _ value) tt
+returns-in_err-read g c =
+    let p = err_from_is_err_and c.from_residual-in_err-read.result c.from_residual-in_err-read.ensures.1 in
+    let refused = rw c.deref.ensures.value at c.in_err-read.ensures.refused in
+    let fault = c.in_err-read.field-0.0 in
+    rw (p.1, p.2) (then_said place.Script _ _ _ (λ bytes. or_trouble script_trouble (script_of bytes)) c.in_ok-bytes.bytes.items _ c.in_ok-bytes.ensures.reads
+    (script_due _ fault (λ line why e. refused line why (ap (λ fault. Err fault) e))) (script_read fault))
 
 pub returns : goal.returns
 unfolding moves_in
 returns g c =
-    let refused = rw c.deref.ensures.value at c.in-Err-read.ensures.refused in
-    rw c.of_script.ensures (then_said place.Script _ _ _ (λ bytes. or_trouble script_trouble (script_of bytes)) c.in-Ok.bytes.items _ c.in-Ok.ensures.reads
-    (script_due _ c.in-Err-read.fault (λ line why e. refused line why (ap (λ fault. Err fault) e))) (script_read c.in-Err-read.fault))
+    let value = rw c.deref.ensures.value at c.in_ok-read.ensures.read in
+    then_said place.Script _ _ _ (λ bytes. or_trouble script_trouble (script_of bytes)) c.in_ok-bytes.bytes.items (Ok c.in_ok-read.field-0) c.in_ok-bytes.ensures.reads
+    (value_due script_trouble _ _ value) tt
