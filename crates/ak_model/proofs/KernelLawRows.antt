@@ -2,7 +2,7 @@
 -- and where the kernel does not evict, the misses need not be those that the accesses force.
 use Rattle.std.proofs.Common.{◌≡◌, ℕ, zero, suc, ◌<◌, [], ◌∷◌, ◌++◌, arith, refl, length, ap}
 use Rattle.std.specs.Prelude.{true, false, reverse, Some, None, option_and_then}
-use Rattle.ak_core.specs.Layout.{IsValid}
+use Rattle.ak_core.specs.Layout.{IsValid, enclave_size}
 use Rattle.ak_core.specs.Journal.{Journal}
 use Rattle.ak_core.specs.declared.event.Event.TheVariants.{Call}
 use Rattle.ak_core.specs.declared.moves.Exit.{Exit}
@@ -24,6 +24,7 @@ use Rattle.ak_model.proofs.IdealMisses.{misses-ideal}
 -- ---- The layouts are valid
 
 valid_a : IsValid image_a
+unfolding enclave_size
 valid_a = record {
   clustered = refl;
   numbered = refl;
@@ -41,7 +42,7 @@ valid_a = record {
 }
 
 valid_f : IsValid image_f
-unfolding image_f
+unfolding image_f enclave_size
 valid_f = record {
   clustered = refl;
   numbered = refl;
