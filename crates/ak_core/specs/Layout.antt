@@ -44,18 +44,26 @@ abbrev pub largest_first : List ℕ → List ℕ
 largest_first [] = []
 largest_first (x ∷ xs) = inserted x (largest_first xs)
 
--- the number of pages of each cluster
-abbrev pub sizes : Layout → List ℕ
-sizes layout = map (λ c. count_by (λ x. x == c) layout.cluster_of) (range_with_len 0 layout.clusters)
+-- how many pages a cluster has, by the cluster of each page
+abbrev pub size_of : List ℕ → ℕ → ℕ
+size_of cluster_of c = count_by (λ x. x == c) cluster_of
+
+-- the sizes of so many clusters
+abbrev pub sizes : ℕ → List ℕ → List ℕ
+sizes clusters cluster_of = map (size_of cluster_of) (range_with_len 0 clusters)
+
+-- the pages of the four largest clusters, or of all, if there are fewer
+abbrev pub four_largest : ℕ → List ℕ → ℕ
+four_largest clusters cluster_of = sum (take 4 (largest_first (sizes clusters cluster_of)))
 
 -- a size doubled until it is large enough, n times at most
 abbrev pub doubled_to : ℕ → ℕ → ℕ → ℕ
 doubled_to zero size least = size
 doubled_to (suc n) size least = if nat_le least size then size else doubled_to n (2 * size) least
 
--- the enclave's size: the smallest power of two with room for the program's pages and the runtime's six
-abbrev pub enclave_size : Layout → ℕ
-enclave_size layout = doubled_to 64 1 (4096 * (length layout.perms + 6))
+-- the enclave's size: the smallest power of two with room for n program pages and the runtime's six
+unfoldable pub enclave_size : ℕ → ℕ
+enclave_size n = doubled_to 64 1 (4096 * (n + 6))
 
 -- the lists have one element for each page, clusters are numbered by first appearance, and all numbers are within their limits
 pub record IsValid (layout : Layout) : Type 0 where
@@ -63,10 +71,10 @@ pub record IsValid (layout : Layout) : Type 0 where
   pub numbered : numbers_from layout.cluster_of 0 ≡ Some layout.clusters
   pub some_page : 1 ≤ length layout.perms
   pub few_pages : length layout.perms ≤ 512
-  pub aligned : layout.base % enclave_size layout ≡ 0
-  pub low : layout.base + enclave_size layout ≤ 2 ^ 47
+  pub aligned : layout.base % enclave_size (length layout.perms) ≡ 0
+  pub low : layout.base + enclave_size (length layout.perms) ≤ 2 ^ 47
   pub entered : layout.entry < 4096 * length layout.perms
-  pub large_budget : sum (take 4 (largest_first (sizes layout))) ≤ layout.budget
+  pub large_budget : four_largest layout.clusters layout.cluster_of ≤ layout.budget
   pub small_budget : layout.budget ≤ 512
   pub some_frames : 9 ≤ layout.frames
   pub few_frames : layout.frames ≤ 8192

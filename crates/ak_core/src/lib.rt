@@ -12,6 +12,7 @@ mod memory;
 mod moves;
 mod page;
 mod registers;
+mod runtime_pages;
 
 pub use build::Build;
 pub use event::{Event, Stop, StopCause};
@@ -21,5 +22,9 @@ pub use journal::Journal;
 pub use layout::Layout;
 pub use memory::Mem;
 pub use moves::{Answer, Exit, Move};
-pub use page::{Entry, Fault, Flags, Frame, Handle, Kind, Lp, Page, PageType, Perm};
+pub use page::{Entry, Fault, Flags, Frame, Handle, Kind, Lp, PAGE_SIZE, Page, PageType, Perm};
 pub use registers::{Mode, Regs};
+pub use runtime_pages::{
+    PROGRAM_FRAME, RUNTIME_FRAME, RUNTIME_PAGES, SSA_AREAS, all_pages, code_page, ssa_page,
+    state_page, tcs_page,
+};

@@ -1,5 +1,8 @@
 // Pages, frames and what is allowed of them (SDM volume 3D, "Enclave Access Control and Data Structures").
 
+/// The bytes of a page.
+pub const PAGE_SIZE: usize = 4096;
+
 /// The number of a page of the enclave. Page `p` has the linear address base + 4096 p.
 #[derive(Clone, Copy, PartialEq, Eq, Debug, Default)]
 pub struct Page(pub u32);

@@ -8,7 +8,7 @@ ghost use Rattle.ak_exec.specs.Fetches.{Finds, IsSound, IfFound, Crosses, refuse
 
 use crate::operands::PAGE;
 use crate::turn::{GENERAL_PROTECTION, INVALID_OPCODE};
-use ak_core::{Decoded, Fault, Instr, Layout, Mem, Page};
+use ak_core::{Decoded, Fault, Instr, Layout, Mem, PAGE_SIZE, Page};
 use ak_isa::decode;
 use arrayvec::ArrayVec;
 
@@ -32,7 +32,7 @@ fn take_bytes<M: Mem>(mem: &M, page: Page, from: u16, window: &mut ArrayVec<u8, 
     requires inside { from < 4096 }
     ensures { window.new.items ≡ take 10 (window.old.items ++ drop from (M.bytes mem.now page.0)) }
 {
-    let room = (LONGEST - window.len()).min(PAGE as usize - from as usize);
+    let room = (LONGEST - window.len()).min(PAGE_SIZE - from as usize);
     for i in 0..room as u16 {
         window.push(mem.load(page, from + i));
     }

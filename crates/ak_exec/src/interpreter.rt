@@ -8,7 +8,7 @@ ghost use Rattle.ak_exec.specs.Carried.{CarriesOut};
 
 use crate::Turn;
 use crate::fetching::{Fetched, fetch};
-use crate::registers::{RSP, compute, moved};
+use crate::plain::{RSP, compute, moved};
 use crate::transfers::{load, load_byte, popped, push, return_near, store};
 use ak_core::{Instr, Layout, Mem, Regs};
 

@@ -5,7 +5,7 @@ mod alu;
 mod fetching;
 mod interpreter;
 mod operands;
-mod registers;
+mod plain;
 #[cfg(test)]
 mod tests;
 mod transfers;

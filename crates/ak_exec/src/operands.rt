@@ -8,10 +8,10 @@ ghost use Rattle.ak_model.specs.Flat.{Flat, is_program, bytes_at, overwrite};
 ghost use Rattle.ak_exec.specs.Turns.{KeepsUnwritten, Shows};
 ghost use Rattle.ak_exec.specs.Accessed.{IsPlace, IsReached, IsUnreached, Reaches, TouchesBoth, refused_access};
 
-use ak_core::{Fault, Kind, Layout, Mem, Page};
+use ak_core::{Fault, Kind, Layout, Mem, PAGE_SIZE, Page};
 
-/// The bytes of a page.
-pub(crate) const PAGE: u64 = 4096;
+/// The bytes of a page, for addresses.
+pub(crate) const PAGE: u64 = PAGE_SIZE as u64;
 
 /// Why an operand was not read or written.
 #[derive(Clone, Copy)]

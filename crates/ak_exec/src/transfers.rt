@@ -6,7 +6,7 @@ ghost use Rattle.ak_exec.specs.Carried.{CarriesOut, turn_of};
 
 use crate::Turn;
 use crate::operands::{Unreached, read, write};
-use crate::registers::RSP;
+use crate::plain::RSP;
 use crate::turn::GENERAL_PROTECTION;
 use ak_core::{Layout, Mem, Regs};
 

@@ -14,7 +14,7 @@ use Rattle.ak_core.specs.declared.page.Perm.TheVariants.{R, Rw, Rx}
 use Rattle.ak_measure.specs.Blocks.{zeros}
 use Rattle.ak_image.specs.Built.{code_page, perm_number}
 use Rattle.ak_image.specs.Fields.{IsCode}
-use Rattle.ak_image.specs.Image.{Image, IsSound}
+use Rattle.ak_image.specs.Image.{Image, IsWhole}
 use Rattle.ak_image.proofs.Fields.{reads}
 use Rattle.ak_image.proofs.Filling.{entry_of, table_length}
 
@@ -92,9 +92,9 @@ module _ (a g z : List ℕ) (es : List (ℕ × Perm)) (b e n : ℕ) (front_lengt
       past (a ++ before) (from_page i d) page (1024 + 4 * i) k
       (ap (λ (t : List ℕ). a ++ t ++ g ++ little_bytes 4 b ++ little_bytes 4 e ++ z) table ∙ parts a before (entry_of x) later g (little_bytes 4 b) (little_bytes 4 e) z) long
 
-pub code : (image : Image) → IsSound image → IsCode image (code_page image.cluster_of image.perms image.budget image.entry)
+pub code : (image : Image) → IsWhole image → IsCode image (code_page image.cluster_of image.perms image.budget image.entry)
 unfolding code_page
-code image sound =
+code image whole =
     let cs = image.cluster_of in
     let ps = image.perms in
     let n = length ps in
@@ -104,25 +104,25 @@ code image sound =
     let g : List ℕ = zeros (2048 - 4 * n) in
     let z : List ℕ = zeros 1016 in
     let es = zip cs ps in
-    let pairs : length es ≡ n = omega (arith, length-zip cs ps, sound.clustered) in
-    let whole = code_page cs ps b e in
-    let limits = at_limits a g z es b e n (length-replicate {A = ℕ} 1024 0) pairs (length-replicate {A = ℕ} (2048 - 4 * n) 0) sound.few_pages in
-    let pages = at_page a g z es b e n (length-replicate {A = ℕ} 1024 0) pairs (length-replicate {A = ℕ} (2048 - 4 * n) 0) sound.few_pages in
-    let (low, high, each_below) = bounded cs 0 image.clusters sound.numbered in
+    let pairs : length es ≡ n = omega (arith, length-zip cs ps, whole.valid.clustered) in
+    let page = code_page cs ps b e in
+    let limits = at_limits a g z es b e n (length-replicate {A = ℕ} 1024 0) pairs (length-replicate {A = ℕ} (2048 - 4 * n) 0) whole.valid.few_pages in
+    let pages = at_page a g z es b e n (length-replicate {A = ℕ} 1024 0) pairs (length-replicate {A = ℕ} (2048 - 4 * n) 0) whole.valid.few_pages in
+    let (low, high, each_below) = bounded cs 0 image.clusters whole.valid.numbered in
     let pair = λ (i : ℕ). get_or es i (0, R) in
     let later = λ (i : ℕ). flat_map entry_of (drop (i + 1) es) ++ (g ++ (little_bytes 4 b ++ (little_bytes 4 e ++ z))) in
     record {
       cluster = λ i within. (
-          let same : pair i ≡ (get_or cs i 0, get_or ps i R) = get_or-zip cs ps i (0, R) (omega (arith, sound.clustered)) within in
+          let same : pair i ≡ (get_or cs i 0, get_or ps i R) = get_or-zip cs ps i (0, R) (omega (arith, whole.valid.clustered)) within in
           let first : (pair i).0 ≡ get_or cs i 0 = ap (λ (p : ℕ × Perm). p.0) same in
-          let small : (pair i).0 < 65536 = omega (arith, first, each_below i (omega (arith, sound.clustered))) in
+          let small : (pair i).0 < 65536 = omega (arith, first, each_below i (omega (arith, whole.valid.clustered))) in
           let at : 1024 + 4 * i ≡ 1024 + 4 * i + 0 = omega arith in
-          reads 2 (pair i).0 whole (little_bytes 1 (perm_number (pair i).1) ++ (zeros 1 ++ later i)) (1024 + 4 * i) small (ap (λ (m : ℕ). drop m whole) at ∙ pages i (0, R) 0 within) ∙ first);
+          reads 2 (pair i).0 page (little_bytes 1 (perm_number (pair i).1) ++ (zeros 1 ++ later i)) (1024 + 4 * i) small (ap (λ (m : ℕ). drop m page) at ∙ pages i (0, R) 0 within) ∙ first);
       permission = λ i perm is. (
           let within : i < n = within_list ps i perm is in
-          let same : pair i ≡ (get_or cs i 0, get_or ps i R) = get_or-zip cs ps i (0, R) (omega (arith, sound.clustered)) within in
+          let same : pair i ≡ (get_or cs i 0, get_or ps i R) = get_or-zip cs ps i (0, R) (omega (arith, whole.valid.clustered)) within in
           let second : (pair i).1 ≡ perm = ap (λ (p : ℕ × Perm). p.1) same ∙ get_or_from_slice_get ps i perm R is in
-          reads 1 (perm_number (pair i).1) whole (zeros 1 ++ later i) (1024 + 4 * i + 2) (small_number (pair i).1) (pages i (0, R) 2 within) ∙ ap perm_number second);
-      budget = reads 4 b whole (little_bytes 4 e ++ z) 3072 (omega arith) (limits 0);
-      entry = reads 4 e whole z 3076 (omega arith) (limits 4);
+          reads 1 (perm_number (pair i).1) page (zeros 1 ++ later i) (1024 + 4 * i + 2) (small_number (pair i).1) (pages i (0, R) 2 within) ∙ ap perm_number second);
+      budget = reads 4 b page (little_bytes 4 e ++ z) 3072 (omega arith) (limits 0);
+      entry = reads 4 e page z 3076 (omega arith) (limits 4);
     }

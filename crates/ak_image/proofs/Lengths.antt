@@ -9,7 +9,7 @@ use Rattle.byteorder.specs.Endian.{little_bytes}
 use Rattle.ak_core.specs.declared.page.Perm.{Perm}
 use Rattle.ak_measure.specs.Blocks.{zeros}
 use Rattle.ak_image.specs.Built.{program_page, tcs_page, code_table, code_page, page_bytes, pages_of}
-use Rattle.ak_image.specs.Image.{Image, IsSound}
+use Rattle.ak_image.specs.Image.{Image, IsWhole}
 use Rattle.ak_image.proofs.Filling.{table_length}
 
 length-tcs_page : (n : ℕ) → length (tcs_page n) ≡ 4096
@@ -33,16 +33,16 @@ length-program_page : (image : Image) (p : ℕ) → length image.bytes ≡ 4096 
 length-program_page image p whole within =
     omega (arith, length-take 4096 (drop (4096 * p) image.bytes), length-drop (4096 * p) image.bytes)
 
-pub length-page_bytes : (image : Image) (p : ℕ) → IsSound image → p < length image.perms + 6 → length (page_bytes image p) ≡ 4096
+pub length-page_bytes : (image : Image) (p : ℕ) → IsWhole image → p < length image.perms + 6 → length (page_bytes image p) ≡ 4096
 unfolding page_bytes
-length-page_bytes image p sound within =
+length-page_bytes image p whole within =
     elim (cases_Bool (nat_lt p (pages_of image))) [
-      | inl t ↦ rw t (length-program_page image p sound.whole (let below : p < length image.perms = grind (arith, nat_tests) in below))
+      | inl t ↦ rw t (length-program_page image p whole.bytes (let below : p < length image.perms = grind (arith, nat_tests) in below))
       | inr f ↦ rw f (elim (cases_Bool (p == pages_of image)) [
         | inl t ↦ rw t (length-tcs_page (pages_of image))
         | inr g ↦ rw g (elim (cases_Bool (nat_lt p (pages_of image + 5))) [
           | inl t ↦ rw t (length-replicate {A = ℕ} 4096 0)
-          | inr h ↦ rw h (length-code_page image.cluster_of image.perms image.budget image.entry sound.clustered sound.few_pages)
+          | inr h ↦ rw h (length-code_page image.cluster_of image.perms image.budget image.entry whole.valid.clustered whole.valid.few_pages)
         ])
       ])
     ]

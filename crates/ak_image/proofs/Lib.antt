@@ -7,7 +7,7 @@ mod Numbering
 mod Largest
 mod Chains
 pub mod Counts
-mod Sound
+mod Whole
 mod Valid
 mod Filling
 mod Measured

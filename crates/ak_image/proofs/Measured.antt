@@ -7,7 +7,7 @@ use Rattle.ak_measure.specs.Blocks.{create_block, page_blocks, blocks_of}
 use Rattle.ak_measure.proofs.BlockLists.{blocks_of-more, range_with_len-more}
 use Rattle.ak_image.specs.Built.{page_bytes, secinfo_of, pages_of, digest_of}
 use Rattle.ak_image.specs.Image.{Image}
-use Rattle.ak_image.specs.Numbers.{size_for}
+use Rattle.ak_core.specs.Layout.{enclave_size}
 
 pub blocks-none : (size : ℕ) → blocks_of size [] ≡ create_block size
 blocks-none size = append-nil (create_block size)
@@ -37,6 +37,6 @@ module _ (image : Image) where
       sym (ap (blocks_of size) (first_more k) ∙ (blocks_of-more size (first_pages k) (built k)
       ∙ ap (λ (i : ℕ). blocks_of size (first_pages k) ++ page_blocks (4096 * i) (secinfo_of image k) (page_bytes image k)) (first_length k)))
 
-  pub digest_of-all : (k : ℕ) → k ≡ pages_of image + 6 → sha256 (blocks_of (size_for (pages_of image)) (first_pages k)) ≡ digest_of image
+  pub digest_of-all : (k : ℕ) → k ≡ pages_of image + 6 → sha256 (blocks_of (enclave_size (pages_of image)) (first_pages k)) ≡ digest_of image
   unfolding digest_of
-  digest_of-all k all = ap (λ (i : ℕ). sha256 (blocks_of (size_for (pages_of image)) (first_pages i))) all
+  digest_of-all k all = ap (λ (i : ℕ). sha256 (blocks_of (enclave_size (pages_of image)) (first_pages i))) all

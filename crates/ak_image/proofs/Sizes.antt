@@ -6,8 +6,8 @@ use Rattle.std.proofs.lemmas.Nat.{pow_pos}
 use Rattle.std.proofs.Math.Nat.{pow-suc, mul_assoc}
 use Rattle.std.proofs.Math.Pow.{pow_mono}
 use Rattle.std.specs.Int.{IsPowerOfTwo}
-use Rattle.ak_core.specs.Layout.{doubled_to}
-use Rattle.ak_image.specs.Numbers.{number_where, size_for, is_base}
+use Rattle.ak_core.specs.Layout.{doubled_to, enclave_size}
+use Rattle.ak_image.specs.Numbers.{number_where, is_base}
 
 -- of two powers that are large enough, the half of the larger one is so too
 same_exponent : (j k least : ℕ) → least ≤ 2 ^ j → 2 ^ k / 2 < max 1 least → j ≤ k → j ≡ k
@@ -52,9 +52,9 @@ doubled_to-large (suc n) size least =
           rw f (omega (arith, more, doubled_to-large n (2 * size) least)))
     ]
 
-pub size_for-power : (n size : ℕ) → IsPowerOfTwo size → 4096 * (n + 6) ≤ size → size / 2 < max 1 (4096 * (n + 6)) → n < 2 ^ 35 → size ≡ size_for n
-unfolding size_for
-size_for-power n size power enough half few =
+pub enclave_size-power : (n size : ℕ) → IsPowerOfTwo size → 4096 * (n + 6) ≤ size → size / 2 < max 1 (4096 * (n + 6)) → n < 2 ^ 35 → size ≡ enclave_size n
+unfolding enclave_size
+enclave_size-power n size power enough half few =
     let k = power.0 in
     let least = 4096 * (n + 6) in
     let same : size ≡ 2 ^ k = power.1 in
@@ -67,14 +67,14 @@ size_for-power n size power enough half few =
     ] in
     same ∙ sym (doubled_to-power 64 0 k least enough' half' (omega arith) (omega arith))
 
-pub size_for-positive : (n : ℕ) → 0 < size_for n
-unfolding size_for
-size_for-positive n = omega (arith, doubled_to-large 64 1 (4096 * (n + 6)))
+pub enclave_size-positive : (n : ℕ) → 0 < enclave_size n
+unfolding enclave_size
+enclave_size-positive n = omega (arith, doubled_to-large 64 1 (4096 * (n + 6)))
 
 -- an enclave of very many pages has no base
-pub size_for-large : (n : ℕ) → 2 ^ 35 ≤ n → 2 ^ 47 < size_for n
-unfolding size_for
-size_for-large n many = omega (arith, doubled_to-large 64 1 (4096 * (n + 6)))
+pub enclave_size-large : (n : ℕ) → 2 ^ 35 ≤ n → 2 ^ 47 < enclave_size n
+unfolding enclave_size
+enclave_size-large n many = omega (arith, doubled_to-large 64 1 (4096 * (n + 6)))
 
 above : (size b : ℕ) → 2 ^ 47 < size → is_base size b ≡ false
 above size b high = ap (λ (t : Bool). (b % size == 0) && t) (let f : nat_le (b + size) (2 ^ 47) ≡ false = grind (arith, nat_tests) in f) ∙ never (b % size == 0)
@@ -83,6 +83,6 @@ above size b high = ap (λ (t : Bool). (b % size == 0) && t) (let f : nat_le (b 
     never true = refl
     never false = refl
 
-pub no_base-large : (n : ℕ) (base : ℤ) → 2 ^ 35 ≤ n → None ≡ number_where (is_base (size_for n)) base
-no_base-large n (pos b) many = rw (above (size_for n) b (size_for-large n many)) refl
+pub no_base-large : (n : ℕ) (base : ℤ) → 2 ^ 35 ≤ n → None ≡ number_where (is_base (enclave_size n)) base
+no_base-large n (pos b) many = rw (above (enclave_size n) b (enclave_size-large n many)) refl
 no_base-large n (negsuc b) many = refl

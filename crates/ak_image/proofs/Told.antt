@@ -7,15 +7,14 @@ use Rattle.std.proofs.lemmas.Grind.{same_number_lists}
 use Rattle.std.proofs.lemmas.List.{same_lists, get_or-take, get_or-drop, length-map}
 use Rattle.std.proofs.lemmas.Option.{slice_get-get_or}
 use Rattle.std.proofs.Math.Nat.{div-add-mod, mul-le-mul_left}
-use Rattle.ak_core.specs.Layout.{numbers_from}
+use Rattle.ak_core.specs.Layout.{numbers_from, enclave_size}
 use Rattle.ak_core.specs.declared.page.Perm.{Perm}
 use Rattle.ak_core.specs.declared.page.Perm.TheVariants.{R, Rw, Rx}
-use Rattle.ak_measure.specs.Blocks.{IsWhole}
+use Rattle.ak_measure.specs.Blocks.{IsWhole as IsWholePage}
 use Rattle.ak_measure.proofs.BlockContents.{same_enclave}
 use Rattle.ak_image.specs.Built.{code_page, perm_number, regular, page_bytes, secinfo_of, pages_of, built_pages, image_blocks, IsSameEnclave}
 use Rattle.ak_image.specs.Fields.{number_at}
-use Rattle.ak_image.specs.Image.{Image, IsSound}
-use Rattle.ak_image.specs.Numbers.{size_for}
+use Rattle.ak_image.specs.Image.{Image, IsWhole}
 use Rattle.ak_image.proofs.BuiltPages.{page_bytes-program, page_bytes-code}
 use Rattle.ak_image.proofs.CodeFields.{code}
 use Rattle.ak_image.proofs.Lengths.{length-page_bytes}
@@ -65,9 +64,9 @@ small_secinfo image p =
     small_choice (nat_lt p (pages_of image)) (p == pages_of image) (nat_lt p (pages_of image + 5)) (option_map_or regular (slice_get image.perms p) 0) (256 * 1) (regular Rw) (regular Rx)
     (small_option (slice_get image.perms p)) (omega arith) (small_flags Rw) (small_flags Rx)
 
-whole_pages : (image : Image) → IsSound image → AllByRecursion IsWhole (built_pages image)
-whole_pages image sound =
-    all_from IsWhole (λ p. (secinfo_of image p, page_bytes image p)) 0 (pages_of image + 6) (λ p low high. (small_secinfo image p, length-page_bytes image p sound (omega arith)))
+whole_pages : (image : Image) → IsWhole image → AllByRecursion IsWholePage (built_pages image)
+whole_pages image whole =
+    all_from IsWholePage (λ p. (secinfo_of image p, page_bytes image p)) 0 (pages_of image + 6) (λ p low high. (small_secinfo image p, length-page_bytes image p whole (omega arith)))
 
 -- ---- Lists of one length
 
@@ -99,20 +98,20 @@ same_number Rx R e = (cc)
 same_number Rx Rw e = (cc)
 same_number Rx Rx e = refl
 
-small_size : (image : Image) → IsSound image → size_for (pages_of image) < 2 ^ 64
-small_size image sound = omega (arith, sound.low)
+small_size : (image : Image) → IsWhole image → enclave_size (pages_of image) < 2 ^ 64
+small_size image whole = omega (arith, whole.valid.low)
 
 built_length : (image : Image) → length (built_pages image) ≡ pages_of image + 6
 built_length image = simp length-map (range_length 0 (pages_of image + 6))
 
 -- ---- One enclave
 
-module _ (image other : Image) (sound : IsSound image) (other_sound : IsSound other) (same : image_blocks image ≡ image_blocks other) where
+module _ (image other : Image) (whole : IsWhole image) (other_whole : IsWhole other) (same : image_blocks image ≡ image_blocks other) where
   pages : built_pages image ≡ built_pages other
   pages =
-      let small = small_size image sound in
-      let other_small = small_size other other_sound in
-      (same_enclave (size_for (pages_of image)) (size_for (pages_of other)) (built_pages image) (built_pages other) small other_small (whole_pages image sound) (whole_pages other other_sound) same).1
+      let small = small_size image whole in
+      let other_small = small_size other other_whole in
+      (same_enclave (enclave_size (pages_of image)) (enclave_size (pages_of other)) (built_pages image) (built_pages other) small other_small (whole_pages image whole) (whole_pages other other_whole) same).1
 
   count : pages_of image ≡ pages_of other
   count = let e : pages_of image + 6 ≡ pages_of other + 6 = sym (built_length image) ∙ (ap length pages ∙ built_length other) in omega arith
@@ -130,37 +129,37 @@ module _ (image other : Image) (sound : IsSound image) (other_sound : IsSound ot
 
   same_cluster_of : image.cluster_of ≡ other.cluster_of
   same_cluster_of =
-      same_number_lists image.cluster_of other.cluster_of (sound.clustered ∙ (count ∙ sym other_sound.clustered)) (λ k within. (
-      let inside : k < length image.perms = omega (arith, sound.clustered) in
+      same_number_lists image.cluster_of other.cluster_of (whole.valid.clustered ∙ (count ∙ sym other_whole.valid.clustered)) (λ k within. (
+      let inside : k < length image.perms = omega (arith, whole.valid.clustered) in
       let other_inside : k < length other.perms = omega (arith, count) in
-      sym ((code image sound).cluster k inside) ∙ (ap (number_at 2 (1024 + 4 * k)) same_code ∙ (code other other_sound).cluster k other_inside)))
+      sym ((code image whole).cluster k inside) ∙ (ap (number_at 2 (1024 + 4 * k)) same_code ∙ (code other other_whole).cluster k other_inside)))
 
   same_perms : image.perms ≡ other.perms
   same_perms =
       same_lists image.perms other.perms count (λ k d within. (
       let other_within : k < length other.perms = omega (arith, count) in
       same_number (get_or image.perms k d) (get_or other.perms k d)
-      (sym ((code image sound).permission k (get_or image.perms k d) (slice_get-get_or image.perms k d within))
-      ∙ (ap (number_at 1 (1024 + 4 * k + 2)) same_code ∙ (code other other_sound).permission k (get_or other.perms k d) (slice_get-get_or other.perms k d other_within)))))
+      (sym ((code image whole).permission k (get_or image.perms k d) (slice_get-get_or image.perms k d within))
+      ∙ (ap (number_at 1 (1024 + 4 * k + 2)) same_code ∙ (code other other_whole).permission k (get_or other.perms k d) (slice_get-get_or other.perms k d other_within)))))
 
   same_bytes : image.bytes ≡ other.bytes
   same_bytes =
-      same_parts 4096 (pages_of image) image.bytes other.bytes (omega arith) sound.whole (other_sound.whole ∙ ap (λ (n : ℕ). 4096 * n) (sym count)) (λ p within. (
+      same_parts 4096 (pages_of image) image.bytes other.bytes (omega arith) whole.bytes (other_whole.bytes ∙ ap (λ (n : ℕ). 4096 * n) (sym count)) (λ p within. (
       let inside : p < pages_of image + 6 = omega arith in
       let other_within : p < pages_of other = omega (arith, count) in
       sym (page_bytes-program image p within) ∙ (bytes_at p inside ∙ page_bytes-program other p other_within)))
 
   same_clusters : image.clusters ≡ other.clusters
   same_clusters =
-      let e : Some image.clusters ≡ Some other.clusters = sym sound.numbered ∙ (ap (λ (cs : List ℕ). numbers_from cs 0) same_cluster_of ∙ other_sound.numbered) in
+      let e : Some image.clusters ≡ Some other.clusters = sym whole.valid.numbered ∙ (ap (λ (cs : List ℕ). numbers_from cs 0) same_cluster_of ∙ other_whole.valid.numbered) in
       cc
 
   pub same_image : IsSameEnclave image other
   same_image = record {
-    entry = sym (code image sound).entry ∙ (ap (number_at 4 3076) same_code ∙ (code other other_sound).entry);
+    entry = sym (code image whole).entry ∙ (ap (number_at 4 3076) same_code ∙ (code other other_whole).entry);
     perms = same_perms;
     cluster_of = same_cluster_of;
     clusters = same_clusters;
-    budget = sym (code image sound).budget ∙ (ap (number_at 4 3072) same_code ∙ (code other other_sound).budget);
+    budget = sym (code image whole).budget ∙ (ap (number_at 4 3072) same_code ∙ (code other other_whole).budget);
     bytes = same_bytes;
   }

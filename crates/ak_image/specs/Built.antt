@@ -9,7 +9,7 @@ use Rattle.ak_core.specs.declared.page.Perm.{Perm}
 use Rattle.ak_core.specs.declared.page.Perm.TheVariants.{R, Rw, Rx}
 use Rattle.ak_measure.specs.Blocks.{zeros, blocks_of}
 use Rattle.ak_image.specs.Image.{Image}
-use Rattle.ak_image.specs.Numbers.{size_for}
+use Rattle.ak_core.specs.Layout.{enclave_size}
 
 -- how many pages the program has
 abbrev pub pages_of : Image → ℕ
@@ -80,7 +80,7 @@ built_pages image = map (λ p. (secinfo_of image p, page_bytes image p)) (range_
 
 -- the blocks that its build leaves
 abbrev pub image_blocks : Image → List ℕ
-image_blocks image = blocks_of (size_for (pages_of image)) (built_pages image)
+image_blocks image = blocks_of (enclave_size (pages_of image)) (built_pages image)
 
 -- the measurement: SHA-256 of the blocks
 unfoldable pub digest_of : Image → List ℕ

@@ -1,17 +1,13 @@
 -- The numbers of an image, each where it is within its limits.
 use Rattle.std.specs.Prelude.{ℕ, ◌+◌, ◌*◌, ◌%◌, ◌^◌, ℤ, pos, negsuc, Bool, ◌&&◌, ◌==◌, nat_lt, nat_le, List, length, map, Option, Some, None, if◌then◌else◌}
-use Rattle.ak_core.specs.Layout.{doubled_to}
-use Rattle.ak_image.specs.Clusters.{distinct, numbered, four_largest}
+use Rattle.ak_core.specs.Layout.{enclave_size, four_largest}
+use Rattle.ak_image.specs.Clusters.{distinct, numbered}
 use Rattle.ak_image.specs.Spelled.{Spelled}
 
 -- the number, where it is not negative and passes the test
 abbrev pub number_where : (ℕ → Bool) → ℤ → Option ℕ
 number_where test (pos n) = if test n then Some n else None
 number_where test (negsuc n) = None
-
--- the enclave's size: the smallest power of two with room for n program pages and the runtime's six
-unfoldable pub size_for : ℕ → ℕ
-size_for n = doubled_to 64 1 (4096 * (n + 6))
 
 -- a multiple of the enclave's size, where the enclave ends at 2^47 at most
 abbrev pub is_base : ℕ → ℕ → Bool
@@ -37,7 +33,7 @@ version_of text = number_where (λ v. v == 1) text.version
 
 -- the base is aligned
 unfoldable pub base_of : Spelled → Option ℕ
-base_of text = number_where (is_base (size_for (count_of text))) text.base
+base_of text = number_where (is_base (enclave_size (count_of text))) text.base
 
 -- the first instruction is in a page of the program
 unfoldable pub entry_of : Spelled → Option ℕ

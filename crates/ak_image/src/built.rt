@@ -4,12 +4,8 @@ ghost use Rattle.ak_measure.specs.Blocks.{zeros};
 ghost use Rattle.byteorder.specs.Endian.{little_bytes};
 ghost use Rattle.ak_image.specs.Built.{tcs_page, perm_number, code_entry, code_page, regular};
 
-use crate::pages::PAGE_SIZE;
-use ak_core::Perm;
+use ak_core::{PAGE_SIZE, Perm, SSA_AREAS, code_page, ssa_page};
 use byteorder::{ByteOrder, LittleEndian};
-
-/// The number of saved-state areas.
-const SSA_AREAS: u32 = 3;
 
 /// Where CODE says something of each page.
 const TABLE: usize = 1024;
@@ -65,11 +61,10 @@ fn tcs_head(pages: u32) -> [u8; 40]
     ensures { result ≡ zeros 16 ++ little_bytes 8 (4096 * (pages + 1)) ++ little_bytes 4 0 ++ little_bytes 4 3 ++ little_bytes 8 (4096 * (pages + 5)) }
 {
     let page_size = PAGE_SIZE as u64;
-    let pages = u64::from(pages);
     let mut head = [0u8; 40];
-    LittleEndian::write_u64(&mut head[16..], page_size * (pages + 1));
+    LittleEndian::write_u64(&mut head[16..], page_size * u64::from(ssa_page(pages, 0)));
     LittleEndian::write_u32(&mut head[28..], SSA_AREAS);
-    LittleEndian::write_u64(&mut head[32..], page_size * (pages + 5));
+    LittleEndian::write_u64(&mut head[32..], page_size * u64::from(code_page(pages)));
     head
 }
 

@@ -3,20 +3,19 @@ ghost use Rattle.std.specs.Prelude.{◌≡◌, ◌<◌, ◌≤◌, ◌+◌, IfOk
 ghost use Rattle.ak_image.specs.Built.{page_bytes, secinfo_of, digest_of};
 ghost use Rattle.ak_image.specs.Image;
 ghost use Rattle.ak_core.specs.Layout.{IsValid};
-ghost use Rattle.ak_image.specs.Image.{IsSound, layout_of};
+ghost use Rattle.ak_image.specs.Image.{IsWhole, layout_of};
 
 use crate::built::{TCS, copy_page, fill_code, fill_tcs, fill_zeros, regular};
 use crate::clusters::Clusters;
 use crate::numbers::enclave_size;
-use crate::pages::PAGE_SIZE;
-use ak_core::{Build, Layout, OutOfMemory, Page, Perm};
+use ak_core::{Build, Layout, OutOfMemory, PAGE_SIZE, Page, Perm, all_pages, code_page, tcs_page};
 use ak_measure::Measure;
 use std::alloc::Global;
 use std::marker::Model;
 
 /// An enclave before it is built: all that its layout says, its signer's name, and the bytes of its program's pages.
 ///
-/// Contracts see it as the record of its fields, and every image is sound: its layout is valid on each machine, and each page
+/// Contracts see it as the record of its fields, and every image is whole: its layout is valid on each machine, and each page
 /// has 4096 bytes.
 #[derive(Drop)]
 pub struct Image {
@@ -44,7 +43,7 @@ impl Model for Image {
       bytes = i.bytes.items;
     } };
 
-    ghost invariant = { λ i. IsSound (record {
+    ghost invariant = { λ i. IsWhole (record {
       base = i.base;
       entry = i.entry;
       perms = i.perms.items;
@@ -67,7 +66,7 @@ impl Image {
         signer: String,
         bytes: Vec<u8>,
     ) -> Image
-        requires { IsSound (record {
+        requires { IsWhole (record {
           base = base;
           entry = entry;
           perms = perms.items;
@@ -103,7 +102,7 @@ impl Image {
     /// How many pages the program has.
     pub fn pages(&self) -> u32
         ensures pages { result ≡ length self.now.perms }
-        ensures sound { IsSound self.now }
+        ensures whole { IsWhole self.now }
     {
         self.perms.len() as u32
     }
@@ -161,9 +160,9 @@ impl Image {
         let page = p.0;
         if page < pages {
             copy_page(&self.bytes, page as usize, into);
-        } else if page == pages {
+        } else if page == tcs_page(pages) {
             fill_tcs(pages, into);
-        } else if page < pages + 5 {
+        } else if page < code_page(pages) {
             fill_zeros(into);
         } else {
             fill_code(&self.cluster_of, &self.perms, self.budget, self.entry, into);
@@ -179,9 +178,9 @@ impl Image {
         let pages = self.perms.len() as u32;
         if page < pages {
             regular(self.perms[page as usize])
-        } else if page == pages {
+        } else if page == tcs_page(pages) {
             TCS
-        } else if page < pages + 5 {
+        } else if page < code_page(pages) {
             regular(Perm::Rw)
         } else {
             regular(Perm::Rx)
@@ -195,9 +194,13 @@ impl Image {
         let pages = self.pages();
         let mut measure = Measure::new(enclave_size(u64::from(pages)));
         let mut bytes = [0u8; PAGE_SIZE];
-        for page in 0..pages + 6 {
+        for page in 0..all_pages(pages) {
             self.fill(Page(page), &mut bytes);
-            measure.add_page(4096 * u64::from(page), self.secinfo(page), &bytes);
+            measure.add_page(
+                PAGE_SIZE as u64 * u64::from(page),
+                self.secinfo(page),
+                &bytes,
+            );
         }
         measure.finish()
     }

@@ -3,13 +3,13 @@ ghost use Rattle.std.specs.Prelude.{◌≡◌, ◌≢◌, ◌<◌, ◌≤◌, �
 ghost use Rattle.ak_image.specs.Built.{page_bytes, tcs_page, code_page, image_blocks, IsSameEnclave};
 ghost use Rattle.ak_image.specs.Fields.{IsTcs, IsCode};
 ghost use Rattle.ak_image.specs.Image;
-ghost use Rattle.ak_image.specs.Image.{IsSound};
+ghost use Rattle.ak_image.specs.Image.{IsWhole};
 ghost use Rattle.ak_image.specs.Reading.{image_of};
 ghost use Rattle.ak_image.specs.declared.fault.ImageFault.TheVariants.{OutOfMemory};
 
-/// An image that bytes spell is sound.
-pub fn read_images_are_sound()
-    ensures { (bytes : List ℕ) (image : Image.Image) → image_of bytes ≡ Ok image → IsSound image }
+/// An image that bytes spell is whole.
+pub fn read_images_are_whole()
+    ensures { (bytes : List ℕ) (image : Image.Image) → image_of bytes ≡ Ok image → IsWhole image }
 {}
 
 /// Want of memory is no refusal.
@@ -19,7 +19,7 @@ pub fn memory_is_no_refusal()
 
 /// Each page of an enclave has 4096 bytes when it is built.
 pub fn pages_are_whole()
-    ensures { (image : Image.Image) (p : ℕ) → IsSound image → p < length image.perms + 6 → length (page_bytes image p) ≡ 4096 }
+    ensures { (image : Image.Image) (p : ℕ) → IsWhole image → p < length image.perms + 6 → length (page_bytes image p) ≡ 4096 }
 {}
 
 /// Each number of the TCS stands at its place.
@@ -29,11 +29,11 @@ pub fn numbers_of_tcs()
 
 /// Each number of CODE stands at its place.
 pub fn numbers_of_code()
-    ensures { (image : Image.Image) → IsSound image → IsCode image (code_page image.cluster_of image.perms image.budget image.entry) }
+    ensures { (image : Image.Image) → IsWhole image → IsCode image (code_page image.cluster_of image.perms image.budget image.entry) }
 {}
 
 /// The blocks tell the image, but for its base and its signer's name: what a measurement stands for, as far as no two texts
 /// have one digest.
 pub fn blocks_tell_the_image()
-    ensures { (image other : Image.Image) → IsSound image → IsSound other → image_blocks image ≡ image_blocks other → IsSameEnclave image other }
+    ensures { (image other : Image.Image) → IsWhole image → IsWhole other → image_blocks image ≡ image_blocks other → IsSameEnclave image other }
 {}

@@ -19,5 +19,5 @@ pub use fault::ImageFault;
 pub use image::Image;
 pub use laws::{
     blocks_tell_the_image, memory_is_no_refusal, numbers_of_code, numbers_of_tcs, pages_are_whole,
-    read_images_are_sound,
+    read_images_are_whole,
 };

@@ -1,10 +1,11 @@
 // The numbers of an image, each where it is within its limits.
 ghost use Rattle.std.specs.Prelude.{◌≡◌, ◌<◌, ◌≤◌, ◌*◌, ◌^◌, ◌==◌, ◌&&◌, nat_lt, nat_le, length};
-ghost use Rattle.ak_image.specs.Clusters.{four_largest};
-ghost use Rattle.ak_image.specs.Numbers.{number_where, size_for, is_base, version_of, base_of, entry_of, budget_of, cluster_of, clusters_of};
+ghost use Rattle.ak_core.specs.Layout.{enclave_size, four_largest};
+ghost use Rattle.ak_image.specs.Numbers.{number_where, is_base, version_of, base_of, entry_of, budget_of, cluster_of, clusters_of};
 ghost use Rattle.ak_image.specs.Views.{spelled_of};
 
 use crate::spelled::Spelled;
+use ak_core::{PAGE_SIZE, RUNTIME_PAGES};
 
 /// The first address above the space of an enclave.
 const ADDRESSES: u64 = 1 << 47;
@@ -12,9 +13,9 @@ const ADDRESSES: u64 = 1 << 47;
 /// The smallest power of two with room for the program's pages and the runtime's six.
 pub(crate) fn enclave_size(pages: u64) -> u64
     requires { pages < 2 ^ 35 }
-    ensures { result ≡ size_for pages }
+    ensures { result ≡ enclave_size pages }
 {
-    (4096 * (pages + 6)).next_power_of_two()
+    (PAGE_SIZE as u64 * (pages + RUNTIME_PAGES as u64)).next_power_of_two()
 }
 
 /// The number, if it is 1.
@@ -29,10 +30,10 @@ fn one(number: i64) -> Option<u64>
 
 /// The number, if it is a base for so many pages.
 fn base_for(number: i64, pages: usize) -> Option<u64>
-    ensures { result ≡ number_where (is_base (size_for pages)) number }
+    ensures { result ≡ number_where (is_base (enclave_size pages)) number }
 {
     let pages = pages as u64;
-    if pages >= ADDRESSES / 4096 {
+    if pages >= ADDRESSES / PAGE_SIZE as u64 {
         return None;
     }
     let size = enclave_size(pages);
@@ -48,7 +49,7 @@ fn offset_in(number: i64, pages: u32) -> Option<u32>
     ensures { result ≡ number_where (λ e. nat_lt e (4096 * pages)) number }
 {
     match u32::try_from(number) {
-        Ok(offset) if offset < 4096 * pages => Some(offset),
+        Ok(offset) if offset < PAGE_SIZE as u32 * pages => Some(offset),
         _ => None,
     }
 }

@@ -6,11 +6,8 @@ ghost use Rattle.ak_image.specs.Views.{page_text_of};
 
 use crate::ImageFault;
 use crate::spelled::PageText;
-use ak_core::{Page, Perm};
+use ak_core::{PAGE_SIZE, Page, Perm};
 use std::alloc::Global;
-
-/// The bytes of a page.
-pub(crate) const PAGE_SIZE: usize = 4096;
 
 /// A text that spells no page.
 #[derive(Clone, Copy)]

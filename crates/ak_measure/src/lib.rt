@@ -7,7 +7,7 @@ mod document;
 mod fault;
 mod laws;
 mod measurement;
-mod table;
+mod signers;
 #[cfg(test)]
 mod tests;
 
@@ -15,4 +15,4 @@ pub use document::read_document;
 pub use fault::{DocumentFault, SignersFault};
 pub use laws::{blocks_tell_the_enclave, bytes_of_blocks, membership, one_more_page};
 pub use measurement::Measure;
-pub use table::Signers;
+pub use signers::Signers;

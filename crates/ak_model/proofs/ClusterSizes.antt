@@ -4,8 +4,8 @@ use Rattle.std.specs.Prelude.{Bool, true, false, cond, sum, sum_by, count_by, sl
 use Rattle.std.specs.List.{range_with_len}
 use Rattle.std.proofs.lemmas.Bool.{eqb-true, eqb-false, ne_eqb}
 use Rattle.std.proofs.lemmas.List.Sums.{sum_by-cons, sum-map, length-filter}
-use Rattle.ak_core.specs.Layout.{Layout, IsValid, sizes}
-use Rattle.ak_model.specs.Pages.{pages, cluster_at, pages_of, size_of}
+use Rattle.ak_core.specs.Layout.{Layout, IsValid, sizes, size_of}
+use Rattle.ak_model.specs.Pages.{pages, cluster_at, pages_of}
 use Rattle.ak_model.proofs.EventsTaken.{cluster_below}
 
 -- ---- One cluster
@@ -32,7 +32,7 @@ module _ (c : ℕ) where
       ∙ one_more (g a) x (places g (a + 1) (length xs)) (times xs) first rest
       ∙ sym (sum_by-cons (λ y. cond (y == c) 1 0) x xs)
 
-pub size_is : (layout : Layout) (c : ℕ) → IsValid layout → size_of layout c ≡ length (pages_of layout c)
+pub size_is : (layout : Layout) (c : ℕ) → IsValid layout → size_of layout.cluster_of c ≡ length (pages_of layout c)
 size_is layout c valid =
     let places_are = times_by_place c layout.cluster_of (cluster_at layout) 0 (λ i l. let e : 0 + i ≡ i = omega arith in ap (cluster_at layout) e) in
     sym (length-filter (λ p. cluster_at layout p == c) (range_with_len 0 (pages layout))
@@ -81,8 +81,8 @@ all_times (x ∷ xs) n h =
     let rest = all_times xs n (λ i l. h (suc i) (omega arith)) in
     omega arith
 
-pub sizes_sum : (layout : Layout) → IsValid layout → sum (sizes layout) ≡ pages layout
+pub sizes_sum : (layout : Layout) → IsValid layout → sum (sizes layout.clusters layout.cluster_of) ≡ pages layout
 sizes_sum layout valid =
-    sum-map (size_of layout) (range_with_len 0 layout.clusters)
+    sum-map (size_of layout.cluster_of) (range_with_len 0 layout.clusters)
     ∙ all_times layout.cluster_of layout.clusters (λ i l. cluster_below layout valid i)
     ∙ valid.clustered

@@ -4,8 +4,7 @@ use Rattle.std.specs.Prelude.{Bool, true, false, sum, sum_by, nat_le, if◌then�
 use Rattle.std.specs.List.{range_with_len}
 use Rattle.std.proofs.lemmas.Bool.{eqb-true, eq-eqb, leb-true, leb-false, or_parts, or_from, or_left, or_right, or_cases, true_from_ne_false}
 use Rattle.std.proofs.lemmas.List.Sums.{sum_by-cons}
-use Rattle.ak_core.specs.Layout.{Layout, IsValid, inserted, largest_first}
-use Rattle.ak_model.specs.Pages.{size_of}
+use Rattle.ak_core.specs.Layout.{Layout, IsValid, inserted, largest_first, size_of}
 use Rattle.ak_model.specs.Queue.{total_size, is_in}
 use Rattle.ak_model.specs.Orderly.{IsDistinct}
 
@@ -173,5 +172,5 @@ module _ (f : ℕ → ℕ) where
 -- at most four different clusters of a valid layout fit its budget together
 pub four_fit : (layout : Layout) → IsValid layout → (queue : List ℕ) → IsDistinct queue → ((c : ℕ) → is_in queue c ≡ true → c < layout.clusters) → length queue ≤ 4 → total_size layout queue ≤ layout.budget
 four_fit layout valid queue d below few =
-    let fit = few_fit (size_of layout) layout.clusters 0 4 queue d (λ x h. let l = below x h in (omega arith, omega arith)) few in
+    let fit = few_fit (size_of layout.cluster_of) layout.clusters 0 4 queue d (λ x h. let l = below x h in (omega arith, omega arith)) few in
     let budget = valid.large_budget in omega arith

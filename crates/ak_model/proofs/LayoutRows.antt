@@ -8,14 +8,15 @@ use Rattle.ak_model.proofs.Samples.{layout_of, image_a, image_j}
 -- ---- Sizes and numbers
 
 -- the smallest power of two with room for the program's pages and six more
-enclave_sizes : map (λ n. enclave_size (layout_of (replicate n R) [] 0 0 0 0)) (1 ∷ 2 ∷ 3 ∷ 10 ∷ 11 ∷ 512 ∷ []) ≡ 32768 ∷ 32768 ∷ 65536 ∷ 65536 ∷ 131072 ∷ 4194304 ∷ []
+enclave_sizes : map enclave_size (1 ∷ 2 ∷ 3 ∷ 10 ∷ 11 ∷ 512 ∷ []) ≡ 32768 ∷ 32768 ∷ 65536 ∷ 65536 ∷ 131072 ∷ 4194304 ∷ []
+unfolding enclave_size
 enclave_sizes = refl
 
 -- clusters numbered by first appearance, and not
 numbered : map (λ clusters. numbers_from clusters 0) ((0 ∷ 1 ∷ 0 ∷ 2 ∷ []) ∷ (0 ∷ 0 ∷ []) ∷ (1 ∷ []) ∷ (0 ∷ 2 ∷ 1 ∷ []) ∷ []) ≡ Some 3 ∷ Some 1 ∷ None ∷ None ∷ []
 numbered = refl
 
-cluster_sizes : sizes (layout_of [] (0 ∷ 1 ∷ 0 ∷ 2 ∷ 0 ∷ []) 3 0 0 0) ≡ 3 ∷ 1 ∷ 1 ∷ []
+cluster_sizes : sizes 3 (0 ∷ 1 ∷ 0 ∷ 2 ∷ 0 ∷ []) ≡ 3 ∷ 1 ∷ 1 ∷ []
 cluster_sizes = refl
 
 largest : largest_first (3 ∷ 1 ∷ 4 ∷ 1 ∷ 5 ∷ []) ≡ 5 ∷ 4 ∷ 3 ∷ 1 ∷ 1 ∷ []
@@ -25,6 +26,7 @@ largest = refl
 
 -- the enclave ends at 2^47, its entry is the last byte, and the numbers are the least and the greatest
 last : IsValid (record image_a { base = 140737488322560; entry = 4095; budget = 512; frames = 8192; lps = 4 })
+unfolding enclave_size
 last = record {
   clustered = refl;
   numbered = refl;
@@ -44,9 +46,11 @@ last = record {
 -- ---- Past them
 
 not_aligned : IsValid (record image_a { base = 4096 }) → ⊥
+unfolding enclave_size
 not_aligned h = let no : suc 4095 ≡ zero = h.aligned in cc
 
 not_low : IsValid (record image_a { base = 140737488355328 }) → ⊥
+unfolding enclave_size
 not_low h = let no : 140737488388096 ≤ 140737488355328 = h.low in absurd (omega arith)
 
 not_entered : IsValid (record image_a { entry = 4096 }) → ⊥

@@ -5,9 +5,9 @@ use Rattle.std.proofs.lemmas.Bool.{eqb-true, or_parts, or_right, or_cases}
 use Rattle.std.proofs.lemmas.List.{append-nil, length-append, length-map, drop-append-le, drop_at}
 use Rattle.std.proofs.lemmas.List.Folds.{list_any-append}
 use Rattle.std.proofs.lemmas.List.Sums.{sum_by-append, sum_by-cons}
-use Rattle.ak_core.specs.Layout.{Layout, IsValid}
+use Rattle.ak_core.specs.Layout.{Layout, IsValid, size_of}
 use Rattle.ak_core.specs.Mem.{Touch}
-use Rattle.ak_model.specs.Pages.{size_of, cluster_at}
+use Rattle.ak_model.specs.Pages.{cluster_at}
 use Rattle.ak_model.specs.Queue.{drops, after_miss, is_in}
 use Rattle.ak_model.specs.Orderly.{IsDistinct}
 use Rattle.ak_model.specs.Ideal.{first_out, missed, misses_of, misses_from}
@@ -88,8 +88,8 @@ module _ (layout : Layout) (valid : IsValid layout) (known : List ℕ) (clusters
   next_fits done c d h =
       let few = few_distinct (done ++ c ∷ []) known d h in
       let fit = four_fit layout valid (done ++ c ∷ []) d (λ x k. clusters x (h x k)) (omega arith) in
-      let total = sum_by-append (size_of layout) done (c ∷ []) in
-      let one = sum_by-cons (size_of layout) c [] in
+      let total = sum_by-append (size_of layout.cluster_of) done (c ∷ []) in
+      let one = sum_by-cons (size_of layout.cluster_of) c [] in
       omega arith
 
   run_from : (front done misses : List ℕ) → IsDistinct done → AreAmong known done → MissRun layout known (front ++ done) misses → IsDistinct (done ++ misses) × AreAmong known (done ++ misses) × (rest : List ℕ) × (fold (after_miss layout) (front ++ done) misses ≡ rest ++ (done ++ misses))

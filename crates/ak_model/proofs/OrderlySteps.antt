@@ -2,10 +2,10 @@
 use Rattle.std.proofs.Common.{◌≡◌, ℕ, zero, suc, ◌<◌, ◌≤◌, List, [], ◌∷◌, ◌++◌, length, drop, arith, refl, ap, sym, ◌∙◌, subst}
 use Rattle.std.specs.Prelude.{Bool, true, false, if◌then◌else◌, Option, Some, None, is_some, ◌==◌}
 use Rattle.std.proofs.lemmas.Bool.{eqb-false, eqb-true}
-use Rattle.ak_core.specs.Layout.{Layout}
+use Rattle.ak_core.specs.Layout.{Layout, size_of}
 use Rattle.ak_core.specs.Mem.{Touch}
 use Rattle.ak_core.specs.declared.event.StopCause.TheVariants.{RuntimeUnmapped, ResumedEarly}
-use Rattle.ak_model.specs.Pages.{pages_of, size_of}
+use Rattle.ak_model.specs.Pages.{pages_of}
 use Rattle.ak_model.specs.Queue.{drops, is_in}
 use Rattle.ak_model.specs.Control.{Phase, New, Running, Calling, Asked, Ended, Trapped, Dead, Context, Program, Entry, Probe, Finish, Guard, Leave, Reason, Interrupted, Cleared, Raised, Denied, Missed, Broke, Faulted, Saved, Cause, Broken, Named, Control, first_cause, is_asked}
 use Rattle.ak_model.specs.RuntimeStep.{save, guard, guard_top, guarded_twice, program_at_bottom, asked_pages, fault, stuck_cause, nested_cause, own_fault, handle, trap, ask, enter, next_probe, finish, resume_guard, leave_call, effect}
@@ -30,7 +30,7 @@ some_asked layout _ i h = absurd (omega arith)
 -- each cluster has a page, and fits the budget
 pub record ClustersFit (layout : Layout) : Type 0 where
   pub some_page : (c : ℕ) → c < layout.clusters → 1 ≤ length (pages_of layout c)
-  pub small : (c : ℕ) → c < layout.clusters → size_of layout c ≤ layout.budget
+  pub small : (c : ℕ) → c < layout.clusters → size_of layout.cluster_of c ≤ layout.budget
 
 module _ (layout : Layout) (fit : ClustersFit layout) (so_far : List ℕ) (control : Control) (old : IsOrderly layout so_far true control) (context : Context) (is_now : control.now ≡ Some context) where
   -- a processor that goes on was not refused

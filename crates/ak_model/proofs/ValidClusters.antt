@@ -5,10 +5,10 @@ use Rattle.std.specs.List.{range_with_len}
 use Rattle.std.proofs.lemmas.Bool.{eqb-true, eqb-false, eq-eqb, ne_eqb, leb-true, leb-false, or_from}
 use Rattle.std.proofs.lemmas.List.Elements.{All-nil, All-cons}
 use Rattle.std.proofs.lemmas.List.Sums.{sum_by-cons}
-use Rattle.ak_core.specs.Layout.{Layout, IsValid, number_on, numbers_from, inserted, largest_first, sizes}
+use Rattle.ak_core.specs.Layout.{Layout, IsValid, number_on, numbers_from, inserted, largest_first, sizes, size_of}
 use Rattle.ak_core.specs.declared.build.Build.{Build}
 use Rattle.ak_core.specs.declared.build.Build.TheVariants.{Resident, Sealed as SealedBuild}
-use Rattle.ak_model.specs.Pages.{pages, size_of, cluster_at}
+use Rattle.ak_model.specs.Pages.{pages, cluster_at}
 use Rattle.ak_model.specs.Build.{queue_at_build}
 use Rattle.ak_model.specs.Queue.{total_size, is_in}
 use Rattle.ak_model.specs.Orderly.{IsDistinct, FitBudget, QueueFits}
@@ -84,8 +84,8 @@ clusters_fit layout valid = record {
       let low : at.0 < pages layout = let a = at.1 in let b = valid.clustered in omega arith in
       filtered (λ p. cluster_at layout p == c) (pages layout) 0 at.0 (omega arith) (omega arith) (eq-eqb (cluster_at layout at.0) c at.2);
   small = λ c l.
-      let below = size_below (size_of layout) layout.clusters 0 c (omega arith) (omega arith) in
-      let first = head_sum (largest_first (sizes layout)) in
+      let below = size_below (size_of layout.cluster_of) layout.clusters 0 c (omega arith) (omega arith) in
+      let first = head_sum (largest_first (sizes layout.clusters layout.cluster_of)) in
       let budget = valid.large_budget in omega arith;
 }
 

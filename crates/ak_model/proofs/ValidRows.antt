@@ -1,11 +1,12 @@
 -- The layouts of the worked images are valid, and the images have 4096 bytes for each page.
 use Rattle.std.proofs.Common.{◌≡◌, ◌*◌, length, arith, refl}
-use Rattle.ak_core.specs.Layout.{IsValid}
+use Rattle.ak_core.specs.Layout.{IsValid, enclave_size}
 use Rattle.ak_model.specs.Pages.{pages}
 use Rattle.ak_model.proofs.Samples.{image_a}
 use Rattle.ak_model.proofs.FlatRows.{image_b, image_f, bytes_a, code_a, bytes_b, bytes_f, filled}
 
 pub valid_a : IsValid image_a
+unfolding enclave_size
 valid_a = record {
   clustered = refl;
   numbered = refl;
@@ -23,7 +24,7 @@ valid_a = record {
 }
 
 pub valid_b : IsValid image_b
-unfolding image_b
+unfolding image_b enclave_size
 valid_b = record {
   clustered = refl;
   numbered = refl;
@@ -41,7 +42,7 @@ valid_b = record {
 }
 
 pub valid_f : IsValid image_f
-unfolding image_f
+unfolding image_f enclave_size
 valid_f = record {
   clustered = refl;
   numbered = refl;

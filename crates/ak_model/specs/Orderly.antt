@@ -1,12 +1,12 @@
 -- The laws of the control state. They hold at each moment, whatever the kernel does, and whatever the program shows, as long
 -- as each miss is of a cluster that is out.
 use Rattle.std.specs.Prelude.{◌≡◌, ◌⊎◌, ℕ, ◌+◌, ◌<◌, ◌≤◌, Bool, true, false, List, [], ◌∷◌, ◌++◌, length, All, Option, Some, None, is_some}
-use Rattle.ak_core.specs.Layout.{Layout}
+use Rattle.ak_core.specs.Layout.{Layout, size_of}
 use Rattle.ak_core.specs.Mem.{Touch}
 use Rattle.ak_core.specs.declared.build.Build.{Build}
 use Rattle.ak_core.specs.declared.build.Build.TheVariants.{Resident, Sealed as SealedBuild}
 use Rattle.ak_core.specs.declared.event.Event.{Event}
-use Rattle.ak_model.specs.Pages.{pages, all_pages, strong_kind, size_of}
+use Rattle.ak_model.specs.Pages.{pages, all_pages, strong_kind}
 use Rattle.ak_model.specs.Queue.{total_size, after_miss, is_in}
 use Rattle.ak_model.specs.Control.{Phase, New, Running, Calling, Asked, Ended, Trapped, Dead, Context, Program, Entry, Probe, Finish, Guard, Leave, Reason, Interrupted, Cleared, Raised, Denied, Missed, Broke, Faulted, Saved, Cause, Control, is_asked}
 use Rattle.ak_model.specs.Turn.{Turn, Goes, Leaves}
@@ -118,7 +118,7 @@ pub record QueueFits (layout : Layout) (queue : List ℕ) : Type 0 where
 -- a cluster that is asked for is out, and fits the budget with those that are in; a dead enclave has a cause
 abbrev pub PhaseFits : Layout → List ℕ → Option Cause → Phase → Type 0
 PhaseFits layout queue cause (Asked c) =
-    (c < layout.clusters) × (is_in queue c ≡ false) × FitBudget layout.build layout (total_size layout queue + size_of layout c)
+    (c < layout.clusters) × (is_in queue c ≡ false) × FitBudget layout.build layout (total_size layout queue + size_of layout.cluster_of c)
 PhaseFits layout queue cause Dead = is_some cause ≡ true
 PhaseFits layout queue cause _ = Unit {0}
 

@@ -1,5 +1,5 @@
 -- The pages of the enclave: their numbers, what each allows, and the clusters of the program's pages. (SDM volume 3D, "SECINFO".)
-use Rattle.std.specs.Prelude.{ℕ, ◌+◌, Bool, true, false, List, length, Option, Some, None, nat_lt, ◌==◌, slice_get, slice_index, filter, count_by, if◌then◌else◌}
+use Rattle.std.specs.Prelude.{ℕ, ◌+◌, Bool, true, false, List, length, Option, Some, None, nat_lt, ◌==◌, slice_get, slice_index, filter, if◌then◌else◌}
 use Rattle.std.specs.List.{range_with_len}
 use Rattle.ak_core.specs.Layout.{Layout}
 use Rattle.ak_core.specs.declared.page.Flags.{Flags}
@@ -97,7 +97,3 @@ cluster_at layout p = slice_index layout.cluster_of p
 -- the pages of a cluster, ascending
 abbrev pub pages_of : Layout → ℕ → List ℕ
 pages_of layout c = filter (λ p. cluster_at layout p == c) (range_with_len 0 (pages layout))
-
--- how many pages a cluster has
-abbrev pub size_of : Layout → ℕ → ℕ
-size_of layout c = count_by (λ x. x == c) layout.cluster_of

@@ -2,7 +2,7 @@
 ghost use Rattle.std.specs.Prelude.{◌≡◌, ◌+◌, ◌≤◌, ℕ, List, [], ◌∷◌, ◌++◌, drop, length, sum};
 ghost use Rattle.ak_core.specs.Layout;
 ghost use Rattle.ak_core.specs.declared.event.Event.{Event};
-ghost use Rattle.ak_model.specs.Pages.{pages, pages_of, size_of};
+ghost use Rattle.ak_model.specs.Pages.{pages, pages_of};
 ghost use Rattle.ak_model.specs.Build.{queue_at_build};
 ghost use Rattle.ak_model.specs.Queue.{drops, total_size, after_miss, queue_after};
 ghost use Rattle.ak_model.specs.Orderly.{QueueFits};
@@ -11,10 +11,10 @@ ghost use Rattle.ak_model.specs.MissedClusters.{missed_on, AreOut};
 
 /// The fewest clusters leave the queue so that the rest fits the budget with the one that was missed.
 pub fn fewest_drops()
-    ensures fit { (layout : Layout.Layout) (c : ℕ) (queue : List ℕ) → size_of layout c ≤ layout.budget
-        → total_size layout (drop (drops layout queue c) queue) + size_of layout c ≤ layout.budget }
+    ensures fit { (layout : Layout.Layout) (c : ℕ) (queue : List ℕ) → Layout.size_of layout.cluster_of c ≤ layout.budget
+        → total_size layout (drop (drops layout queue c) queue) + Layout.size_of layout.cluster_of c ≤ layout.budget }
     ensures least { (layout : Layout.Layout) (c : ℕ) (queue : List ℕ) (d : ℕ)
-        → total_size layout (drop d queue) + size_of layout c ≤ layout.budget → drops layout queue c ≤ d }
+        → total_size layout (drop d queue) + Layout.size_of layout.cluster_of c ≤ layout.budget → drops layout queue c ≤ d }
 {}
 
 /// One more miss changes the queue by that miss alone.
@@ -38,6 +38,6 @@ pub fn queue_fits()
 /// In a valid layout the size of a cluster is the number of its pages, and the sizes of all clusters add up to the number of
 /// the program's pages.
 pub fn sizes()
-    ensures each { (layout : Layout.Layout) (c : ℕ) → Layout.IsValid layout → size_of layout c ≡ length (pages_of layout c) }
-    ensures all { (layout : Layout.Layout) → Layout.IsValid layout → sum (Layout.sizes layout) ≡ pages layout }
+    ensures each { (layout : Layout.Layout) (c : ℕ) → Layout.IsValid layout → Layout.size_of layout.cluster_of c ≡ length (pages_of layout c) }
+    ensures all { (layout : Layout.Layout) → Layout.IsValid layout → sum (Layout.sizes layout.clusters layout.cluster_of) ≡ pages layout }
 {}

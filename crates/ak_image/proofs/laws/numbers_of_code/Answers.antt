@@ -2,4 +2,4 @@ use Rattle.ak_image.proofs.CodeFields.{code}
 use Rattle.ak_image.proofs.laws.numbers_of_code.Goals as goal
 
 pub returns : goal.returns
-returns c image sound = code image sound
+returns c image whole = code image whole

@@ -2,20 +2,20 @@ use Rattle.std.proofs.Common.{◌≡◌, ℕ, ◌+◌, ◌*◌, ◌++◌, List, 
 use Rattle.ak_measure.specs.Absorbed.{HasAbsorbed}
 use Rattle.ak_measure.specs.Blocks.{create_block, page_blocks, blocks_of}
 use Rattle.ak_image.specs.Built.{pages_of, secinfo_of}
-use Rattle.ak_image.specs.Numbers.{size_for}
+use Rattle.ak_core.specs.Layout.{enclave_size}
 use Rattle.ak_image.proofs.Measured.{blocks-none, blocks-more, digest_of-all, first_pages}
 use Rattle.ak_image.proofs.image.Image.digest.Goals as goal
 
 pub loop-page-init : goal.loop-page-init
 loop-page-init c =
-    let size : c.enclave_size.result ≡ size_for (pages_of c.args.self.now) = c.enclave_size.ensures ∙ ap size_for (c.from.ensures ∙ c.pages-pages.ensures.pages) in
-    subst (HasAbsorbed c.new-measure.result) (ap create_block size ∙ sym (blocks-none (size_for (pages_of c.args.self.now)))) c.new-measure.ensures
+    let size : c.enclave_size.result ≡ enclave_size (pages_of c.args.self.now) = c.enclave_size.ensures ∙ ap enclave_size (c.from.ensures ∙ c.pages-pages.ensures.pages) in
+    subst (HasAbsorbed c.new-measure.result) (ap create_block size ∙ sym (blocks-none (enclave_size (pages_of c.args.self.now)))) c.new-measure.ensures
 
 pub loop-page-preserved : goal.loop-page-preserved
 loop-page-preserved c =
     let image = c.args.self.now in
     let k = c.loop-page.page in
-    let size = size_for (pages_of image) in
+    let size = enclave_size (pages_of image) in
     let same : blocks_of size (first_pages image k) ++ page_blocks (4096 * c.from-in-loop-page.result) c.secinfo.result c.fill.new.into ≡ blocks_of size (first_pages image (k + 1)) =
     ap (λ (i : ℕ). blocks_of size (first_pages image k) ++ page_blocks (4096 * i) c.secinfo.result c.fill.new.into) c.from-in-loop-page.ensures
     ∙ (ap (λ (i : ℕ). blocks_of size (first_pages image k) ++ page_blocks (4096 * k) i c.fill.new.into) c.secinfo.ensures

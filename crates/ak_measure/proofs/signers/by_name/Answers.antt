@@ -8,7 +8,7 @@ use Rattle.ak_measure.proofs.NamedEntries.{turn, in_order, any_repeats-more, any
 use Rattle.ak_measure.proofs.NamesInOrder.{insert_entry-last}
 use Rattle.ak_measure.proofs.Places.{found_at}
 use Rattle.ak_measure.proofs.Reading.{each_of-more}
-use Rattle.ak_measure.proofs.table.by_name.Goals as goal
+use Rattle.ak_measure.proofs.signers.by_name.Goals as goal
 
 pub returns-in-Err-clause-repeated : goal.returns-in-Err-clause-repeated
 returns-in-Err-clause-repeated c repeated =

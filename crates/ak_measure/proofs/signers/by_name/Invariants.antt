@@ -6,7 +6,7 @@ use Rattle.std.specs.Map.{keys_of}
 use Rattle.ak_measure.specs.Collected.{signer_at, named}
 use Rattle.ak_measure.specs.Signers.{any_repeats}
 use Rattle.ak_measure.specs.Stages.{each_of}
-use Rattle.ak_measure.proofs.table.by_name.Given as goal
+use Rattle.ak_measure.proofs.signers.by_name.Given as goal
 
 abbrev pub invariant-loop-name : goal.invariant-loop-name
 invariant-loop-name l = record {

@@ -6,7 +6,7 @@ use Rattle.ak_measure.specs.declared.fault.SignersFault.{SignersFault}
 use Rattle.ak_measure.specs.declared.fault.SignersFault.TheVariants.{Repeated, OutOfMemory}
 use Rattle.ak_measure.proofs.ReadSigners.{signers_of-bad_key, signers_of-bad_digest, signers_of-signers, signers_of-repeated}
 use Rattle.ak_measure.proofs.NamesInOrder.{Ascend-named}
-use Rattle.ak_measure.proofs.table.Signers.read.Goals as goal
+use Rattle.ak_measure.proofs.signers.Signers.read.Goals as goal
 
 abbrev Spelled : Type 0
 Spelled = Result Signed SignersFault

@@ -1,6 +1,6 @@
 use Rattle.std.proofs.Common.{Some, None, ◌∙◌}
 use Rattle.ak_measure.proofs.Names.{allows-named}
-use Rattle.ak_measure.proofs.table.Signers.allows.Goals as goal
+use Rattle.ak_measure.proofs.signers.Signers.allows.Goals as goal
 
 pub returns-in-Some : goal.returns-in-Some
 returns-in-Some c =
