@@ -1,4 +1,5 @@
 pub mod Turns
+pub mod Kept
 pub mod Fetches
 pub mod Accessed
 pub mod Plain

@@ -4,6 +4,7 @@ ghost use Rattle.ak_core.specs.Mem.{is_touched, touch};
 ghost use Rattle.ak_core.specs.declared.page.Kind.TheVariants.{Exec};
 ghost use Rattle.ak_model.specs.Flat.{Flat};
 ghost use Rattle.ak_exec.specs.Turns.{Shows};
+ghost use Rattle.ak_exec.specs.Kept.{SameMemory};
 ghost use Rattle.ak_exec.specs.Fetches.{Finds, IsSound, IfFound, Crosses, refused_fetch};
 
 use crate::operands::PAGE;
@@ -42,9 +43,7 @@ fn take_bytes<M: Mem>(mem: &M, page: Page, from: u16, window: &mut ArrayVec<u8, 
 pub(crate) fn fetch<M: Mem>(layout: &Layout, rip: u64, mem: &mut M) -> Fetched
     requires begun { M.granted mem.old ≡ [] }
     requires unrefused { M.refused mem.old ≡ None }
-    ensures holds { M.holds mem.new ≡ M.holds mem.old }
-    ensures tables { M.tables mem.new ≡ M.tables mem.old }
-    ensures bytes { M.bytes mem.new ≡ M.bytes mem.old }
+    ensures same { SameMemory M.Mem mem.old mem.new }
     ensures refused { M.refused mem.new ≡ refused_fetch result }
     ensures sound { IsSound result }
     ensures room { IfFound result (rip + 10 < 2 ^ 64) }
@@ -81,9 +80,7 @@ pub(crate) fn fetch<M: Mem>(layout: &Layout, rip: u64, mem: &mut M) -> Fetched
 fn fetch_across<M: Mem>(mem: &mut M, next: Page, window: &mut ArrayVec<u8, LONGEST>) -> Fetched
     requires few { length (M.granted mem.old) < 4 }
     requires unrefused { M.refused mem.old ≡ None }
-    ensures holds { M.holds mem.new ≡ M.holds mem.old }
-    ensures tables { M.tables mem.new ≡ M.tables mem.old }
-    ensures bytes { M.bytes mem.new ≡ M.bytes mem.old }
+    ensures same { SameMemory M.Mem mem.old mem.new }
     ensures refused { M.refused mem.new ≡ refused_fetch result }
     ensures sound { IsSound result }
     ensures few { length (M.granted mem.new) ≤ length (M.granted mem.old) + 1 }

@@ -5,6 +5,7 @@ ghost use Rattle.ak_model.specs.Flat.{Flat, line};
 ghost use Rattle.ak_model.specs.Instructions.{plan, HasRegisters};
 ghost use Rattle.ak_exec.specs.Turns.{Shows, DoesLine, IfIncomplete, IsVector, KeepsUnwritten, refused_by};
 ghost use Rattle.ak_exec.specs.Carried.{CarriesOut};
+ghost use Rattle.ak_exec.specs.Kept.{EndsTurn};
 
 use crate::Turn;
 use crate::fetching::{Fetched, fetch};
@@ -18,14 +19,7 @@ fn perform<M: Mem>(layout: &Layout, regs: &mut Regs, mem: &mut M, instr: Instr, 
     requires room { regs.old.rip + size < 2 ^ 64 }
     requires few { length (M.granted mem.old) ≤ 2 }
     requires unrefused { M.refused mem.old ≡ None }
-    ensures holds { M.holds mem.new ≡ M.holds mem.old }
-    ensures tables { M.tables mem.new ≡ M.tables mem.old }
-    ensures mode { regs.new.mode ≡ regs.old.mode }
-    ensures vector { IsVector result }
-    ensures refused { M.refused mem.new ≡ refused_by result }
-    ensures same_registers { IfIncomplete result (regs.new ≡ regs.old) }
-    ensures same_bytes { IfIncomplete result (M.bytes mem.new ≡ M.bytes mem.old) }
-    ensures unwritten { KeepsUnwritten (M.granted mem.new) (M.bytes mem.old) (M.bytes mem.new) }
+    ensures ends { EndsTurn M.Mem result mem.old mem.new regs.old regs.new }
     ensures carried { CarriesOut layout.now (plan instr (record regs.old { rip = regs.old.rip + size })) result regs.new
         (M.holds mem.new) (M.bytes mem.old) (M.bytes mem.new) (M.granted mem.old) (M.granted mem.new) }
 {

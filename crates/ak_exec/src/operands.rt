@@ -6,6 +6,7 @@ ghost use Rattle.ak_core.specs.declared.page.Kind.TheVariants.{Read, Write};
 ghost use Rattle.ak_model.specs.Pages.{pages};
 ghost use Rattle.ak_model.specs.Flat.{Flat, is_program, bytes_at, overwrite};
 ghost use Rattle.ak_exec.specs.Turns.{KeepsUnwritten, Shows};
+ghost use Rattle.ak_exec.specs.Kept.{SameMemory};
 ghost use Rattle.ak_exec.specs.Accessed.{IsPlace, IsReached, IsUnreached, Reaches, TouchesBoth, refused_access};
 
 use ak_core::{Fault, Kind, Layout, Mem, PAGE_SIZE, Page};
@@ -38,9 +39,7 @@ fn place_of(layout: &Layout, address: u64, count: usize) -> Option<u64>
 /// Touches a page.
 fn touch<M: Mem>(mem: &mut M, page: Page, kind: Kind) -> Result<(), Fault>
     requires few { length (M.granted mem.old) < 4 }
-    ensures holds { M.holds mem.new ≡ M.holds mem.old }
-    ensures tables { M.tables mem.new ≡ M.tables mem.old }
-    ensures bytes { M.bytes mem.new ≡ M.bytes mem.old }
+    ensures same { SameMemory M.Mem mem.old mem.new }
     ensures touch { Touches (touch page.0 kind) result (M.holds mem.old) (M.granted mem.old) (M.granted mem.new)
         (M.refused mem.old) (M.refused mem.new) }
 {
@@ -55,9 +54,7 @@ fn touch<M: Mem>(mem: &mut M, page: Page, kind: Kind) -> Result<(), Fault>
 fn touch_both<M: Mem>(mem: &mut M, first: Page, last: Page, kind: Kind) -> Result<(), Fault>
     requires few { length (M.granted mem.old) ≤ 2 }
     requires unrefused { M.refused mem.old ≡ None }
-    ensures holds { M.holds mem.new ≡ M.holds mem.old }
-    ensures tables { M.tables mem.new ≡ M.tables mem.old }
-    ensures bytes { M.bytes mem.new ≡ M.bytes mem.old }
+    ensures same { SameMemory M.Mem mem.old mem.new }
     ensures granted { OnOk result (M.refused mem.new ≡ None) }
     ensures refused { IfErr result (λ fault. M.refused mem.new ≡ Some fault) }
     ensures both { TouchesBoth first.0 last.0 kind result (M.holds mem.new)
@@ -82,9 +79,7 @@ fn reach<M: Mem>(
     requires within { count ≤ 8 }
     requires few { length (M.granted mem.old) ≤ 2 }
     requires unrefused { M.refused mem.old ≡ None }
-    ensures holds { M.holds mem.new ≡ M.holds mem.old }
-    ensures tables { M.tables mem.new ≡ M.tables mem.old }
-    ensures bytes { M.bytes mem.new ≡ M.bytes mem.old }
+    ensures same { SameMemory M.Mem mem.old mem.new }
     ensures refused { M.refused mem.new ≡ refused_access result }
     ensures reached { IfOk result (λ place. IsReached layout.now address count kind place
         (M.holds mem.new) (M.granted mem.old) (M.granted mem.new)) }
@@ -149,9 +144,7 @@ pub(crate) fn read<M: Mem>(
     requires within { length into.old ≤ 8 }
     requires few { length (M.granted mem.old) ≤ 2 }
     requires unrefused { M.refused mem.old ≡ None }
-    ensures holds { M.holds mem.new ≡ M.holds mem.old }
-    ensures tables { M.tables mem.new ≡ M.tables mem.old }
-    ensures bytes { M.bytes mem.new ≡ M.bytes mem.old }
+    ensures same { SameMemory M.Mem mem.old mem.new }
     ensures refused { M.refused mem.new ≡ refused_access result }
     ensures reached { OnOk result (Reaches layout.now address (length into.old) Read
         (M.granted mem.old) (M.granted mem.new)) }

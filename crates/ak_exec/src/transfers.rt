@@ -1,7 +1,7 @@
 // Instructions that read or write one operand in memory, by what they ask.
 ghost use Rattle.std.specs.Prelude.{◌≡◌, ◌<◌, ◌≤◌, ◌+◌, ◌*◌, ◌/◌, None, length};
 ghost use Rattle.ak_model.specs.Instructions.{Reads, Writes, le_bytes, minus, plus, reg_of, rsp, with_reg};
-ghost use Rattle.ak_exec.specs.Turns.{IfIncomplete, IsVector, KeepsUnwritten, refused_by};
+ghost use Rattle.ak_exec.specs.Kept.{EndsTurn};
 ghost use Rattle.ak_exec.specs.Carried.{CarriesOut, turn_of};
 
 use crate::Turn;
@@ -35,13 +35,7 @@ pub(crate) fn load<M: Mem>(
     requires mode { after.mode ≡ regs.old.mode }
     requires few { length (M.granted mem.old) ≤ 2 }
     requires unrefused { M.refused mem.old ≡ None }
-    ensures holds { M.holds mem.new ≡ M.holds mem.old }
-    ensures tables { M.tables mem.new ≡ M.tables mem.old }
-    ensures mode { regs.new.mode ≡ regs.old.mode }
-    ensures vector { IsVector result }
-    ensures refused { M.refused mem.new ≡ refused_by result }
-    ensures same_registers { IfIncomplete result (regs.new ≡ regs.old) }
-    ensures same_bytes { IfIncomplete result (M.bytes mem.new ≡ M.bytes mem.old) }
+    ensures ends { EndsTurn M.Mem result mem.old mem.new regs.old regs.new }
     ensures bytes { M.bytes mem.new ≡ M.bytes mem.old }
     ensures carried { CarriesOut layout.now (Reads address 8 (λ v. with_reg after reg v)) result regs.new
         (M.holds mem.new) (M.bytes mem.old) (M.bytes mem.new) (M.granted mem.old) (M.granted mem.new) }
@@ -70,13 +64,7 @@ pub(crate) fn load_byte<M: Mem>(
     requires mode { after.mode ≡ regs.old.mode }
     requires few { length (M.granted mem.old) ≤ 2 }
     requires unrefused { M.refused mem.old ≡ None }
-    ensures holds { M.holds mem.new ≡ M.holds mem.old }
-    ensures tables { M.tables mem.new ≡ M.tables mem.old }
-    ensures mode { regs.new.mode ≡ regs.old.mode }
-    ensures vector { IsVector result }
-    ensures refused { M.refused mem.new ≡ refused_by result }
-    ensures same_registers { IfIncomplete result (regs.new ≡ regs.old) }
-    ensures same_bytes { IfIncomplete result (M.bytes mem.new ≡ M.bytes mem.old) }
+    ensures ends { EndsTurn M.Mem result mem.old mem.new regs.old regs.new }
     ensures bytes { M.bytes mem.new ≡ M.bytes mem.old }
     ensures carried { CarriesOut layout.now
         (Reads address 1 (λ v. with_reg after reg (reg_of after reg / 256 * 256 + v))) result regs.new
@@ -105,13 +93,7 @@ pub(crate) fn return_near<M: Mem>(
     requires mode { after.mode ≡ regs.old.mode }
     requires few { length (M.granted mem.old) ≤ 2 }
     requires unrefused { M.refused mem.old ≡ None }
-    ensures holds { M.holds mem.new ≡ M.holds mem.old }
-    ensures tables { M.tables mem.new ≡ M.tables mem.old }
-    ensures mode { regs.new.mode ≡ regs.old.mode }
-    ensures vector { IsVector result }
-    ensures refused { M.refused mem.new ≡ refused_by result }
-    ensures same_registers { IfIncomplete result (regs.new ≡ regs.old) }
-    ensures same_bytes { IfIncomplete result (M.bytes mem.new ≡ M.bytes mem.old) }
+    ensures ends { EndsTurn M.Mem result mem.old mem.new regs.old regs.new }
     ensures bytes { M.bytes mem.new ≡ M.bytes mem.old }
     ensures carried { CarriesOut layout.now (Reads address 8 (λ v. record after { rip = v })) result regs.new
         (M.holds mem.new) (M.bytes mem.old) (M.bytes mem.new) (M.granted mem.old) (M.granted mem.new) }
@@ -141,14 +123,7 @@ pub(crate) fn store<M: Mem>(
     requires mode { after.mode ≡ regs.old.mode }
     requires few { length (M.granted mem.old) ≤ 2 }
     requires unrefused { M.refused mem.old ≡ None }
-    ensures holds { M.holds mem.new ≡ M.holds mem.old }
-    ensures tables { M.tables mem.new ≡ M.tables mem.old }
-    ensures mode { regs.new.mode ≡ regs.old.mode }
-    ensures vector { IsVector result }
-    ensures refused { M.refused mem.new ≡ refused_by result }
-    ensures same_registers { IfIncomplete result (regs.new ≡ regs.old) }
-    ensures same_bytes { IfIncomplete result (M.bytes mem.new ≡ M.bytes mem.old) }
-    ensures unwritten { KeepsUnwritten (M.granted mem.new) (M.bytes mem.old) (M.bytes mem.new) }
+    ensures ends { EndsTurn M.Mem result mem.old mem.new regs.old regs.new }
     ensures carried { CarriesOut layout.now (Writes address bytes.now after) result regs.new
         (M.holds mem.new) (M.bytes mem.old) (M.bytes mem.new) (M.granted mem.old) (M.granted mem.new) }
 {
@@ -172,14 +147,7 @@ pub(crate) fn push<M: Mem>(
     requires mode { after.mode ≡ regs.old.mode }
     requires few { length (M.granted mem.old) ≤ 2 }
     requires unrefused { M.refused mem.old ≡ None }
-    ensures holds { M.holds mem.new ≡ M.holds mem.old }
-    ensures tables { M.tables mem.new ≡ M.tables mem.old }
-    ensures mode { regs.new.mode ≡ regs.old.mode }
-    ensures vector { IsVector result }
-    ensures refused { M.refused mem.new ≡ refused_by result }
-    ensures same_registers { IfIncomplete result (regs.new ≡ regs.old) }
-    ensures same_bytes { IfIncomplete result (M.bytes mem.new ≡ M.bytes mem.old) }
-    ensures unwritten { KeepsUnwritten (M.granted mem.new) (M.bytes mem.old) (M.bytes mem.new) }
+    ensures ends { EndsTurn M.Mem result mem.old mem.new regs.old regs.new }
     ensures carried { let top = minus (reg_of after rsp) 8 in
         CarriesOut layout.now (Writes top (le_bytes 8 number) (with_reg after rsp top)) result regs.new
         (M.holds mem.new) (M.bytes mem.old) (M.bytes mem.new) (M.granted mem.old) (M.granted mem.new) }

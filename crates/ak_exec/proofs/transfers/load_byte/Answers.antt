@@ -8,8 +8,8 @@ use Rattle.ak_exec.proofs.transfers.load_byte.Goals as goal
 pub returns-in-Ok-clause-carried : goal.returns-in-Ok-clause-carried
 returns-in-Ok-clause-carried g c flat shows =
     let after = λ (v : ℕ). let f : Flat = record { regs = with_reg c.args.after c.args.reg (reg_of c.args.after c.args.reg / 256 * 256 + v); bytes = flat.bytes } in f in
-    let old = shows_same c.args.layout.now (g.M.Mem.holds c.read.new.mem) (g.M.Mem.holds c.args.mem.now) (g.M.Mem.bytes c.args.mem.now) (g.M.Mem.bytes c.args.mem.now) flat (sym c.in-Ok.ensures.holds) refl shows in
-    let new = shows_same c.args.layout.now (g.M.Mem.holds c.read.new.mem) (g.M.Mem.holds c.read.new.mem) (g.M.Mem.bytes c.args.mem.now) (g.M.Mem.bytes c.read.new.mem) flat refl c.in-Ok.ensures.bytes shows in
+    let old = shows_same c.args.layout.now (g.M.Mem.holds c.read.new.mem) (g.M.Mem.holds c.args.mem.now) (g.M.Mem.bytes c.args.mem.now) (g.M.Mem.bytes c.args.mem.now) flat (sym c.in-Ok.ensures.same.holds) refl shows in
+    let new = shows_same c.args.layout.now (g.M.Mem.holds c.read.new.mem) (g.M.Mem.holds c.read.new.mem) (g.M.Mem.bytes c.args.mem.now) (g.M.Mem.bytes c.read.new.mem) flat refl c.in-Ok.ensures.same.bytes shows in
     let value : get_or c.read.new.into 0 0 ≡ le_value (bytes_at c.args.layout.now flat c.args.address 1) =
     get_or-1 c.read.new.into c.read.auto.into ∙ ap le_value (c.in-Ok.ensures.value flat old) in
     completes c.args.layout.now _ (after (le_value (bytes_at c.args.layout.now flat c.args.address 1))) (after (get_or c.read.new.into 0 0)).regs (g.M.Mem.holds c.read.new.mem) (g.M.Mem.bytes c.read.new.mem) (g.M.Mem.granted c.read.new.mem)
