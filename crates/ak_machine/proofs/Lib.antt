@@ -12,6 +12,6 @@ pub mod Moves
 pub mod Held
 pub mod Filling
 pub mod Builds
-pub mod Notes
+pub mod LaterNotes
 pub mod Kept
 pub mod Histories

@@ -35,7 +35,7 @@ use Rattle.ak_pte.specs.declared.table.Pte.{Pte}
 use Rattle.ak_walk.specs.Agrees.{EntryAgrees}
 use Rattle.ak_machine.specs.declared.activity.Stage.{Stage}
 use Rattle.ak_machine.specs.declared.activity.Activity.{Activity}
-use Rattle.ak_machine.specs.declared.applied.RuntimeNote.{RuntimeNote}
+use Rattle.ak_machine.specs.declared.notes.RuntimeNote.{RuntimeNote}
 use Rattle.ak_machine.specs.Served.{IsServedLayout, is_first_or_none}
 use Rattle.ak_machine.specs.Memory.{pte_at, tables_of}
 use Rattle.ak_machine.specs.State.{State}

@@ -14,8 +14,8 @@ use Rattle.ak_model.proofs.TurnRuns.{made-goes, turns-leaves, made-all}
 use Rattle.ak_model.proofs.TurnFacts.{alone-append}
 use Rattle.ak_machine.specs.declared.activity.Stage.{Stage}
 use Rattle.ak_machine.specs.declared.activity.Activity.{Activity}
-use Rattle.ak_machine.specs.declared.applied.ProgramNote.{ProgramNote}
-use Rattle.ak_machine.specs.declared.applied.Turned.{Turned}
+use Rattle.ak_machine.specs.declared.notes.ProgramNote.{ProgramNote}
+use Rattle.ak_machine.specs.declared.notes.Turned.{Turned}
 use Rattle.ak_machine.specs.State.{State}
 use Rattle.ak_machine.specs.Controls.{control_of}
 use Rattle.ak_machine.specs.Stands.{Stands, StageReached, ReachedStands}

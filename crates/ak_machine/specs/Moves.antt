@@ -21,8 +21,8 @@ use Rattle.ak_model.specs.Outputs.{output_by, shown_by}
 use Rattle.ak_model.specs.ProgramTurns.{ProgramTurn, turn_in, turns_of_run, turns_of_move}
 use Rattle.ak_machine.specs.declared.activity.Stage.{Stage}
 use Rattle.ak_machine.specs.declared.activity.Activity.{Activity}
-use Rattle.ak_machine.specs.declared.applied.ProgramNote.{ProgramNote}
-use Rattle.ak_machine.specs.declared.applied.RuntimeNote.{RuntimeNote}
+use Rattle.ak_machine.specs.declared.notes.ProgramNote.{ProgramNote}
+use Rattle.ak_machine.specs.declared.notes.RuntimeNote.{RuntimeNote}
 use Rattle.ak_machine.specs.State.{State}
 use Rattle.ak_machine.specs.Controls.{control_of, context_at}
 use Rattle.ak_machine.specs.Faults.{fault_event}

@@ -7,7 +7,7 @@ use Rattle.ak_model.specs.Flat.{Flat, Vector, line}
 use Rattle.ak_exec.specs.Turns.{Shows}
 use Rattle.ak_machine.specs.declared.activity.Stage.{Stage}
 use Rattle.ak_machine.specs.declared.activity.Activity.{Activity}
-use Rattle.ak_machine.specs.declared.applied.ProgramNote.{ProgramNote}
+use Rattle.ak_machine.specs.declared.notes.ProgramNote.{ProgramNote}
 use Rattle.ak_machine.specs.Memory.{is_held, finds}
 use Rattle.ak_machine.specs.State.{State}
 use Rattle.ak_machine.specs.Faults.{fault_stage}

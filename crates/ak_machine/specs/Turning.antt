@@ -1,7 +1,7 @@
 -- What a turn came to.
 use Rattle.std.specs.Prelude.{◌≡◌, ℕ, true, is_some}
-use Rattle.ak_machine.specs.declared.applied.Turned.{Turned}
-use Rattle.ak_machine.specs.declared.applied.ProgramNote.{ProgramNote}
+use Rattle.ak_machine.specs.declared.notes.Turned.{Turned}
+use Rattle.ak_machine.specs.declared.notes.ProgramNote.{ProgramNote}
 
 -- the turn leaves, completes nothing, and the program shows nothing
 pub record QuietlyLeaves (turned : Turned) (old new : ℕ) : Type 0 where

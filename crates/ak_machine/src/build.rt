@@ -7,11 +7,11 @@ ghost use Rattle.ak_machine.specs.State.{state_of, layout_of};
 ghost use Rattle.ak_machine.specs.Built.{IsBuilt, HoldsPages};
 
 use crate::activity::{Activity, Stage};
-use crate::contents::built_frames;
+use crate::frame_bytes::built_frames;
 use crate::machine::{Machine, zeroed_at};
 use crate::memory::Memory;
-use crate::tables::{RUNTIME_PAGES, built_epcm, built_table};
-use ak_core::{BuildFault, OutOfMemory};
+use crate::tables::{built_epcm, built_table};
+use ak_core::{BuildFault, OutOfMemory, all_pages};
 use ak_image::Image;
 use ak_measure::Signers;
 use std::alloc::Global;
@@ -59,7 +59,7 @@ impl Machine {
         ensures built { IfOk result (λ machine. IsBuilt (image_layout image.now frames lps) image.now.bytes (state_of machine)) }
         ensures pages { IfOk result (λ machine. HoldsPages (image_layout image.now frames lps) (page_bytes image.now) (state_of machine)) }
     {
-        let pages = image.pages() + RUNTIME_PAGES;
+        let pages = all_pages(image.pages());
         let layout = image.layout(alloc, frames, lps)?;
         let frames = built_frames(alloc, image, &layout)?;
         let epcm = built_epcm(alloc, &layout)?;

@@ -6,8 +6,8 @@ ghost use Rattle.ak_machine.specs.Moves.{IsMove, KeepsRuntime, event_in, note_of
 ghost use Rattle.ak_machine.specs.Notes.{NoteStands, KeepsSaved, saved_access};
 
 use crate::activity::Activity;
-use crate::applied::{Applied, ProgramNote, RuntimeNote};
 use crate::machine::Machine;
+use crate::notes::{Applied, ProgramNote, RuntimeNote};
 use ak_core::{Answer, Lp, Move, Page};
 use ak_pte::Pte;
 

@@ -3,17 +3,17 @@
 #![tactic(auto)]
 
 mod activity;
-mod applied;
 mod build;
-mod contents;
+mod frame_bytes;
 mod kernel;
 mod machine;
 mod memory;
+mod notes;
 mod permission;
 mod tables;
 #[cfg(test)]
 mod tests;
 
-pub use applied::{Applied, ProgramNote, RuntimeNote};
 pub use machine::Machine;
+pub use notes::{Applied, ProgramNote, RuntimeNote};
 pub use permission::is_forbidden;

@@ -11,8 +11,8 @@ ghost use Rattle.ak_machine.specs.Faults.{fault_stage};
 ghost use Rattle.ak_machine.specs.Turning.{note_or};
 
 use crate::activity::{Activity, Stage};
-use crate::applied::{ProgramNote, Ran, RuntimeNote, Turned};
 use crate::memory::Memory;
+use crate::notes::{ProgramNote, Ran, RuntimeNote, Turned};
 use crate::permission::is_forbidden;
 use ak_core::{Exit, Fault, Kind, Layout, Mode, Page, Regs, StopCause};
 use ak_exec::{Turn, exec};

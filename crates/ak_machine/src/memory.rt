@@ -12,9 +12,6 @@ use ak_pte::{PageTable, Pte};
 use ak_walk::walk;
 use arrayvec::ArrayVec;
 
-/// The bytes of a page.
-pub(crate) const PAGE_SIZE: usize = 4096;
-
 /// The frames of the page cache, with the tables by which a walk finds a page in one of them. No walk sets a flag.
 #[derive(Drop)]
 pub struct Memory {

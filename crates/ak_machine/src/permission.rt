@@ -3,7 +3,7 @@ ghost use Rattle.std.specs.Prelude.{◌≡◌};
 ghost use Rattle.ak_model.specs.Pages.{allows, perm_of as page_perm};
 ghost use Rattle.ak_model.specs.Flat.{is_forbidden as forbids};
 
-use ak_core::{Fault, Kind, Layout, Page, Perm};
+use ak_core::{Fault, Kind, Layout, Page, Perm, code_page, tcs_page};
 
 /// A permission allows the access.
 fn is_allowed(perm: Perm, kind: Kind) -> bool
@@ -20,13 +20,13 @@ fn is_allowed(perm: Perm, kind: Kind) -> bool
 pub(crate) fn perm_of(layout: &Layout, p: Page) -> Option<Perm>
     ensures { result ≡ page_perm layout.now p.0 }
 {
-    let pages = layout.perms().len();
-    let p = p.0 as usize;
+    let pages = layout.perms().len() as u32;
+    let p = p.0;
     if p < pages {
-        layout.perms().get(p).copied()
-    } else if p > pages && p < pages + 5 {
+        layout.perms().get(p as usize).copied()
+    } else if p > tcs_page(pages) && p < code_page(pages) {
         Some(Perm::Rw)
-    } else if p == pages + 5 {
+    } else if p == code_page(pages) {
         Some(Perm::Rx)
     } else {
         None

@@ -9,19 +9,13 @@ ghost use Rattle.ak_machine.specs.Served.{IsServedLayout};
 ghost use Rattle.ak_machine.specs.Built.{page_held, IsMapping, MapsEach};
 
 use crate::permission::perm_of;
-use ak_core::{Entry, Flags, Frame, Layout, OutOfMemory, Page, PageType, Perm};
+use ak_core::{
+    Entry, Flags, Frame, Layout, OutOfMemory, PROGRAM_FRAME, Page, PageType, Perm, RUNTIME_FRAME,
+    all_pages, tcs_page,
+};
 use ak_epcm::Epcm;
 use ak_pte::{PageTable, Pte};
 use std::alloc::Global;
-
-/// The frame of the program's first page. Before it are those of the SECS, of a VA page and of the runtime's pages.
-const PROGRAM: u32 = 8;
-
-/// The frame of the runtime's first page.
-const RUNTIME: u32 = 2;
-
-/// The runtime's pages: the TCS, three saved-state areas, STATE and CODE.
-pub(crate) const RUNTIME_PAGES: u32 = 6;
 
 /// The page of the enclave that a frame holds, if it holds one.
 pub(crate) fn page_in(layout: &Layout, f: Frame) -> Option<Page>
@@ -29,12 +23,12 @@ pub(crate) fn page_in(layout: &Layout, f: Frame) -> Option<Page>
     ensures { option_map (λ p. p.0) result ≡ page_held (held_at_build layout.now f.0) }
 {
     let pages = layout.perms().len() as u32;
-    if f.0 < RUNTIME {
+    if f.0 < RUNTIME_FRAME {
         None
-    } else if f.0 < PROGRAM {
-        Some(Page(pages + f.0 - RUNTIME))
-    } else if f.0 < PROGRAM + pages {
-        Some(Page(f.0 - PROGRAM))
+    } else if f.0 < PROGRAM_FRAME {
+        Some(Page(pages + f.0 - RUNTIME_FRAME))
+    } else if f.0 < PROGRAM_FRAME + pages {
+        Some(Page(f.0 - PROGRAM_FRAME))
     } else {
         None
     }
@@ -48,9 +42,9 @@ fn frame_of(layout: &Layout, p: Page) -> Frame
 {
     let pages = layout.perms().len() as u32;
     if p.0 < pages {
-        Frame(PROGRAM + p.0)
+        Frame(PROGRAM_FRAME + p.0)
     } else {
-        Frame(p.0 - pages + RUNTIME)
+        Frame(p.0 - pages + RUNTIME_FRAME)
     }
 }
 
@@ -74,7 +68,7 @@ fn page_entry(layout: &Layout, p: Page) -> Entry
     ensures { HoldsPage layout.now result p.0 None }
 {
     let perm = perm_of(layout, p);
-    let is_tcs = p.0 as usize == layout.perms().len();
+    let is_tcs = p.0 == tcs_page(layout.perms().len() as u32);
     Entry {
         valid: true,
         kind: if is_tcs { PageType::Tcs } else { PageType::Reg },
@@ -106,7 +100,7 @@ pub(crate) fn built_epcm(alloc: Global, layout: &Layout) -> Result<Epcm, OutOfMe
     ensures entries { IfOk result (λ epcm. (f : ℕ) → EntryAgrees layout.now (entry_at epcm f) (held_at_build layout.now f) None) }
 {
     let mut epcm = Epcm::new(alloc, layout.frames())?;
-    let used = PROGRAM + layout.perms().len() as u32;
+    let used = PROGRAM_FRAME + layout.perms().len() as u32;
     for f in 0..used {
         let entry = entry_of(layout, Frame(f));
         epcm.set(Frame(f), entry);
@@ -140,7 +134,7 @@ pub(crate) fn built_table(alloc: Global, layout: &Layout) -> Result<PageTable, O
     ensures length { IfOk result (λ table. length table ≡ all_pages layout.now) }
     ensures mapped { IfOk result (λ table. MapsEach layout.now table (all_pages layout.now)) }
 {
-    let all = layout.perms().len() as u32 + RUNTIME_PAGES;
+    let all = all_pages(layout.perms().len() as u32);
     let mut table = PageTable::new(alloc, all)?;
     for p in 0..all {
         let entry = mapping_of(layout, Page(p));

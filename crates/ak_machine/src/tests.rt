@@ -6,7 +6,9 @@ ghost use Rattle.ak_machine.specs.Histories.{StandsForSome};
 
 use crate::Machine;
 use crate::activity::{Activity, Stage};
-use ak_core::{Answer, BuildFault, Exit, Fault, Flags, Frame, Kind, Layout, Lp, Move, Page};
+use ak_core::{
+    Answer, BuildFault, Exit, Fault, Flags, Frame, Kind, Layout, Lp, Move, PROGRAM_FRAME, Page,
+};
 use ak_image::Image;
 use ak_measure::Signers;
 use std::alloc::Global;
@@ -122,7 +124,7 @@ fn built(alloc: Global, image: &Image) -> Result<Machine, Fail>
     ensures { IfOk result (λ machine. StandsForSome (layout_of machine) (state_of machine)) }
 {
     let signers = signed_by(alloc, "author", image)?;
-    match Machine::build(alloc, image, &signers, 8 + image.pages(), 1) {
+    match Machine::build(alloc, image, &signers, PROGRAM_FRAME + image.pages(), 1) {
         Ok(machine) => Ok(machine),
         Err(fault) => Err(fault.into()),
     }
@@ -323,7 +325,7 @@ fn each_page_is_in_a_frame_and_mapped_for_all_that_it_allows(rt: HostRuntime) ->
 
 /// An image is refused with this fault.
 fn is_refused(rt: &impl Abort, alloc: Global, image: &Image, signers: &Signers, fault: BuildFault) {
-    match Machine::build(alloc, image, signers, 8 + image.pages(), 1) {
+    match Machine::build(alloc, image, signers, PROGRAM_FRAME + image.pages(), 1) {
         Ok(_) => assert!(rt; false),
         Err(got) => assert_eq!(rt; got, fault),
     }

@@ -2,7 +2,7 @@ use Rattle.std.proofs.Common.{◌≡◌, ◌∙◌, ◌+◌, ap}
 use Rattle.ak_model.specs.Flat.{zeroed}
 use Rattle.ak_machine.specs.declared.activity.Stage.{Stage}
 use Rattle.ak_machine.specs.declared.activity.Activity.{Activity}
-use Rattle.ak_machine.specs.declared.applied.Turned.{Turned}
+use Rattle.ak_machine.specs.declared.notes.Turned.{Turned}
 use Rattle.ak_machine.specs.State.{state_of}
 use Rattle.ak_machine.proofs.RuntimeTurns.{entry, entry_trap, with_regs}
 use Rattle.ak_machine.proofs.machine.Machine.entry_turn.Goals as goal

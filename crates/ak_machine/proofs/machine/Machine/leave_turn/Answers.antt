@@ -1,7 +1,7 @@
 use Rattle.std.proofs.Common.{◌∙◌, ap}
 use Rattle.std.specs.Prelude.{Some}
 use Rattle.ak_machine.specs.declared.activity.Activity.{Activity}
-use Rattle.ak_machine.specs.declared.applied.Turned.{Turned}
+use Rattle.ak_machine.specs.declared.notes.Turned.{Turned}
 use Rattle.ak_machine.specs.State.{state_of}
 use Rattle.ak_machine.proofs.ProgramTurns.{at}
 use Rattle.ak_machine.proofs.RuntimeTurns.{leave, ended_stage, ended_exit, called_stage, called_exit}

@@ -1,5 +1,5 @@
 use Rattle.std.proofs.Common.{◌≡◌, ◌≤◌, ◌<◌, ◌∙◌, refl, ap, arith, sym, subst, inl, inr}
-use Rattle.ak_machine.specs.declared.applied.Applied.{Applied}
+use Rattle.ak_machine.specs.declared.notes.Applied.{Applied}
 use Rattle.ak_machine.specs.State.{state_of}
 use Rattle.ak_machine.specs.Controls.{is_inside}
 use Rattle.ak_core.specs.declared.moves.Move.{Move}

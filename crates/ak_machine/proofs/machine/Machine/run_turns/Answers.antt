@@ -3,13 +3,13 @@ use Rattle.std.specs.Prelude.{is_some, not}
 use Rattle.ak_core.specs.Layout.{Layout}
 use Rattle.ak_core.specs.Journal.{with_more}
 use Rattle.ak_model.specs.Pages.{pages}
-use Rattle.ak_machine.specs.declared.applied.ProgramNote.{ProgramNote}
+use Rattle.ak_machine.specs.declared.notes.ProgramNote.{ProgramNote}
 use Rattle.ak_machine.specs.State.{state_of}
 use Rattle.ak_machine.specs.Stands.{Stands}
 use Rattle.ak_machine.specs.Moves.{DoesTurn, DoesRun, RunsSoFar, event_in}
 use Rattle.ak_machine.specs.Notes.{NoteStands, is_of_next, noted_access}
 use Rattle.ak_machine.proofs.Runs.{leaves_any, goes_on_any, note_later, still}
-use Rattle.ak_machine.proofs.Notes.{not_of_next, later_stands, later_of_next, none_noted, later_noted}
+use Rattle.ak_machine.proofs.LaterNotes.{not_of_next, later_stands, later_of_next, none_noted, later_noted}
 use Rattle.ak_machine.proofs.machine.Machine.run_turns.Goals as goal
 
 pub returns-in-Some-clause-run : goal.returns-in-Some-clause-run

@@ -2,8 +2,8 @@ use Rattle.std.proofs.Common.{◌≡◌, ℕ, ◌+◌, ◌≤◌, ◌<◌, List,
 use Rattle.std.specs.Prelude.{None}
 use Rattle.ak_core.specs.declared.event.Event.{Event}
 use Rattle.ak_model.specs.History.{History}
-use Rattle.ak_machine.specs.declared.applied.ProgramNote.{ProgramNote}
-use Rattle.ak_machine.specs.declared.applied.RuntimeNote.{RuntimeNote}
+use Rattle.ak_machine.specs.declared.notes.ProgramNote.{ProgramNote}
+use Rattle.ak_machine.specs.declared.notes.RuntimeNote.{RuntimeNote}
 use Rattle.ak_machine.specs.State.{state_of}
 use Rattle.ak_machine.specs.Controls.{is_inside}
 use Rattle.ak_machine.specs.Stands.{Stands}

@@ -6,7 +6,7 @@ use Rattle.ak_model.specs.Build.{held_at_build}
 use Rattle.ak_machine.specs.Memory.{Frames, IsWhole}
 use Rattle.ak_machine.specs.Built.{FillsEach, bytes_held, page_held}
 use Rattle.ak_machine.proofs.Filling.{whole-none, whole-push, fills_more}
-use Rattle.ak_machine.proofs.contents.built_frames.Goals as goal
+use Rattle.ak_machine.proofs.frame_bytes.built_frames.Goals as goal
 
 pub loop-f-init : goal.loop-f-init
 loop-f-init c = record {

@@ -1,13 +1,12 @@
-// The frames at the end of the build.
+// The bytes of the frames at the end of the build.
 ghost use Rattle.std.specs.Prelude.{◌≡◌, ◌+◌, ◌<◌, ◌++◌, [], ◌∷◌, IfOk, IfSome, OnOk, length, option_map};
 ghost use Rattle.ak_core.specs.declared.build.Build.{Build as HowBuilt};
 ghost use Rattle.ak_image.specs.Built.{page_bytes};
 ghost use Rattle.ak_machine.specs.Memory.{IsWhole, blank_page};
 ghost use Rattle.ak_machine.specs.Built.{bytes_held, FillsEach};
 
-use crate::memory::PAGE_SIZE;
 use crate::tables::page_in;
-use ak_core::{Frame, Layout, OutOfMemory, Page};
+use ak_core::{Frame, Layout, OutOfMemory, PAGE_SIZE, Page};
 use ak_image::Image;
 use std::alloc::Global;
 

@@ -1,4 +1,4 @@
-// What a move came to.
+// The notes of a move, of a turn and of a run: what each came to.
 
 use ak_core::{Answer, Exit, Fault, StopCause};
 

@@ -2,7 +2,7 @@ use Rattle.std.proofs.Common.{◌≡◌, length}
 use Rattle.ak_image.specs.Built.{page_bytes}
 use Rattle.ak_machine.specs.Memory.{IsWhole}
 use Rattle.ak_machine.specs.Built.{FillsEach}
-use Rattle.ak_machine.proofs.contents.built_frames.Given as goal
+use Rattle.ak_machine.proofs.frame_bytes.built_frames.Given as goal
 
 abbrev pub invariant-loop-f : goal.invariant-loop-f
 invariant-loop-f l = record {

@@ -2,7 +2,7 @@
 use Rattle.std.proofs.Common.{◌≡◌, refl, false}
 use Rattle.std.specs.Prelude.{None}
 use Rattle.ak_core.specs.Layout.{Layout}
-use Rattle.ak_machine.specs.declared.applied.ProgramNote.{ProgramNote}
+use Rattle.ak_machine.specs.declared.notes.ProgramNote.{ProgramNote}
 use Rattle.ak_machine.specs.State.{State}
 use Rattle.ak_machine.specs.Turning.{note_or}
 use Rattle.ak_machine.specs.Notes.{NoteStands, is_of_next, noted_access}
