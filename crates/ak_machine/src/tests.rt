@@ -297,28 +297,42 @@ fn other_entries_fault(rt: HostRuntime) -> Result<(), Fail> {
     Ok(())
 }
 
+/// Whether a page may be read, written and executed.
+fn kinds_of(machine: &Machine, page: Page) -> [bool; 3] {
+    [
+        machine.walkable(page, Kind::Read),
+        machine.walkable(page, Kind::Write),
+        machine.walkable(page, Kind::Exec),
+    ]
+}
+
+/// A page has this first byte, and may be read, written and executed as this says.
+fn is_mapped(rt: &impl Abort, machine: &Machine, page: u32, first: Option<u8>, kinds: [bool; 3]) {
+    let byte = match machine.bytes(Page(page)) {
+        Some(bytes) => bytes.first().copied(),
+        None => None,
+    };
+    assert_eq!(rt; byte, first, "page {page}");
+    assert_eq!(rt; kinds_of(machine, Page(page)), kinds, "page {page}");
+}
+
 #[test]
 fn each_page_is_in_a_frame_and_mapped_for_all_that_it_allows(rt: HostRuntime) -> Result<(), Fail> {
-    let image = Image::read(rt.alloc(), THREE_PAGES.as_bytes())?;
-    let machine = built(rt.alloc(), &image)?;
-    for (p, first, read, write, exec) in [
-        (0, Some(0xa0), true, false, false),
-        (1, Some(0xa1), true, true, false),
-        (2, Some(0xa2), true, false, true),
-        (3, Some(0), false, false, false),
-        (4, Some(0), true, true, false),
-        (7, Some(0), true, true, false),
-        (8, Some(0), true, false, true),
-        (9, None, false, false, false),
+    let machine = built(
+        rt.alloc(),
+        &Image::read(rt.alloc(), THREE_PAGES.as_bytes())?,
+    )?;
+    for (page, first, kinds) in [
+        (0, Some(0xa0), [true, false, false]),
+        (1, Some(0xa1), [true, true, false]),
+        (2, Some(0xa2), [true, false, true]),
+        (3, Some(0), [false, false, false]),
+        (4, Some(0), [true, true, false]),
+        (7, Some(0), [true, true, false]),
+        (8, Some(0), [true, false, true]),
+        (9, None, [false, false, false]),
     ] {
-        let byte = match machine.bytes(Page(p)) {
-            Some(bytes) => bytes.first().copied(),
-            None => None,
-        };
-        assert_eq!(rt; byte, first, "page {p}");
-        assert_eq!(rt; machine.walkable(Page(p), Kind::Read), read, "page {p}");
-        assert_eq!(rt; machine.walkable(Page(p), Kind::Write), write, "page {p}");
-        assert_eq!(rt; machine.walkable(Page(p), Kind::Exec), exec, "page {p}");
+        is_mapped(&rt, &machine, page, first, kinds);
     }
     Ok(())
 }
