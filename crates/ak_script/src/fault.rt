@@ -5,7 +5,7 @@ use std::alloc::AllocFailed;
 
 /// Why a line of a script is refused.
 #[derive(Clone, Copy, PartialEq, Eq, Debug)]
-pub enum Kind {
+pub enum Refusal {
     /// It has a byte over 127.
     NotAscii = 1,
     /// Its first word is none of a script's words.
@@ -22,8 +22,8 @@ pub enum Kind {
     Flags = 7,
 }
 
-impl Kind {
-    ghost use Rattle.ak_script.specs.Kind.{number_of, word_of};
+impl Refusal {
+    ghost use Rattle.ak_script.specs.Refusal.{number_of, word_of};
 
     /// The number of the refusal.
     pub fn number(self) -> u8
@@ -37,13 +37,13 @@ impl Kind {
         ensures { result.now ≡ word_of self }
     {
         match self {
-            Kind::NotAscii => "notascii",
-            Kind::Unknown => "unknown",
-            Kind::Words => "words",
-            Kind::Number => "number",
-            Kind::Range => "range",
-            Kind::TooMany => "toomany",
-            Kind::Flags => "flags",
+            Refusal::NotAscii => "notascii",
+            Refusal::Unknown => "unknown",
+            Refusal::Words => "words",
+            Refusal::Number => "number",
+            Refusal::Range => "range",
+            Refusal::TooMany => "toomany",
+            Refusal::Flags => "flags",
         }
     }
 }
@@ -56,7 +56,7 @@ pub enum ScriptFault {
         /// The line.
         line: u32,
         /// Why it is refused.
-        why: Kind,
+        why: Refusal,
     },
     /// Memory ran out.
     OutOfMemory,
