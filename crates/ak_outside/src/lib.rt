@@ -7,18 +7,18 @@ mod counted;
 mod files;
 mod memory_files;
 mod memory_sink;
-mod pieces;
 mod real_files;
 mod real_sink;
 mod sink;
+mod writing;
 
 pub use files::{Files, FilesFault};
 pub use memory_files::MemFiles;
 pub use memory_sink::MemSink;
-pub use pieces::{write_lines, write_three, write_two};
 pub use real_files::RealFiles;
 pub use real_sink::RealSink;
 pub use sink::{Sink, SinkFault};
+pub use writing::{write_lines, write_three, write_two};
 
 #[cfg(test)]
 mod tests;

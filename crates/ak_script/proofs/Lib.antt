@@ -1,5 +1,5 @@
 mod Rows
 pub mod Comparing
-pub mod Cutting
+pub mod Splits
 pub mod Digits
 pub mod Reading

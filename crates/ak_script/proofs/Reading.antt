@@ -10,14 +10,14 @@ use Rattle.std.proofs.lemmas.List.Elements.{filter_map-append}
 use Rattle.std.proofs.lemmas.List.Sums.{sum_by_push}
 use Rattle.ak_core.specs.declared.moves.Move.{Move}
 use Rattle.ak_core.specs.declared.moves.Move.TheVariants.{SetPte, ReadPte, Eenter, Run}
-use Rattle.ak_script.specs.declared.fault.Kind.{Kind}
-use Rattle.ak_script.specs.declared.fault.Kind.TheVariants as reason
+use Rattle.ak_script.specs.declared.fault.Refusal.{Refusal}
+use Rattle.ak_script.specs.declared.fault.Refusal.TheVariants as reason
 use Rattle.std.specs.Str.Lines.{lines}
 use Rattle.ak_script.specs.Line.{Spelled, is_spelled, spelled}
-use Rattle.ak_script.specs.Script.{Refusal, refusal, are_too_many, moves_of, refused_at, refusals_of, told_by, turns_of, first_or}
+use Rattle.ak_script.specs.Script.{RefusedLine, refused_line, are_too_many, moves_of, refused_at, refused_lines, told_by, turns_of, first_or}
 
 -- the first that is there
-first_of : (f : ℕ → Option Refusal) (moves : List Move) (r : Refusal) (n k a : ℕ) → k < n → ((i : ℕ) → i < k → f (a + i) ≡ None) → f (a + k) ≡ Some r → first_or (filter_map f (range_with_len a n)) moves ≡ Err r
+first_of : (f : ℕ → Option RefusedLine) (moves : List Move) (r : RefusedLine) (n k a : ℕ) → k < n → ((i : ℕ) → i < k → f (a + i) ≡ None) → f (a + k) ≡ Some r → first_or (filter_map f (range_with_len a n)) moves ≡ Err r
 first_of f moves r zero k a lt none some = absurd (omega arith)
 first_of f moves r (suc n) zero a lt none some = let here : f a ≡ Some r = ap f (omega arith) ∙ some in rw here refl
 first_of f moves r (suc n) (suc k) a lt none some =
@@ -26,7 +26,7 @@ first_of f moves r (suc n) (suc k) a lt none some =
     rw here (first_of f moves r n k (a + 1) (omega arith) (λ i lt. ap f (later i) ∙ none (suc i) (omega arith)) (ap f (later k) ∙ some))
 
 -- none is there
-none_of : (f : ℕ → Option Refusal) (n a : ℕ) → ((i : ℕ) → i < n → f (a + i) ≡ None) → filter_map f (range_with_len a n) ≡ []
+none_of : (f : ℕ → Option RefusedLine) (n a : ℕ) → ((i : ℕ) → i < n → f (a + i) ≡ None) → filter_map f (range_with_len a n) ≡ []
 none_of f zero a none = refl
 none_of f (suc n) a none =
     let here : f a ≡ None = ap f (omega arith) ∙ none 0 (omega arith) in
@@ -62,10 +62,10 @@ refused_at-At said n x rest h =
     rw (h.here, moves) refl
 
 -- that line and the reason
-abbrev told : ℕ → Option Kind → Option Refusal
-told i o = option_map (refusal (i + 1)) o
+abbrev told : ℕ → Option Refusal → Option RefusedLine
+told i o = option_map (refused_line (i + 1)) o
 
-abbrev refusal_at : List Spelled → ℕ → Option Refusal
+abbrev refusal_at : List Spelled → ℕ → Option RefusedLine
 refusal_at said i = told i (refused_at said i)
 
 -- the first n lines are read, none of them is refused, and these are their moves
@@ -103,7 +103,7 @@ module _ {said : List Spelled} {n : ℕ} {rest : List Spelled} {moves : List Mov
   adds m few so = reads (Ok (Some m)) (m ∷ []) refl refl few so
 
   -- it is refused
-  stops : (x : Spelled) (why : Kind) → option_or (result_err x) (if are_too_many (moves ++ moves_of (x ∷ [])) then Some reason.TooMany else None) ≡ Some why → SaidSoFar said n (x ∷ rest) moves → told_by said ≡ Err (refusal (n + 1) why)
+  stops : (x : Spelled) (why : Refusal) → option_or (result_err x) (if are_too_many (moves ++ moves_of (x ∷ [])) then Some reason.TooMany else None) ≡ Some why → SaidSoFar said n (x ∷ rest) moves → told_by said ≡ Err (refused_line (n + 1) why)
   stops x why is so =
       let h = at said n x rest so.left_is in
       let here : refused_at said n ≡ Some why = refused_at-At said n x rest h ∙ rw so.moves_are is in
@@ -112,11 +112,11 @@ module _ {said : List Spelled} {n : ℕ} {rest : List Spelled} {moves : List Mov
       (ap (refusal_at said) (zero-add n) ∙ ap (told n) here)
 
   -- it is refused by itself
-  pub refuses : (why : Kind) → SaidSoFar said n (Err why ∷ rest) moves → told_by said ≡ Err (refusal (n + 1) why)
+  pub refuses : (why : Refusal) → SaidSoFar said n (Err why ∷ rest) moves → told_by said ≡ Err (refused_line (n + 1) why)
   refuses why so = stops (Err why) why refl so
 
   -- it is a move too many
-  pub overflows : (m : Move) → are_too_many (moves ++ m ∷ []) ≡ true → SaidSoFar said n (Ok (Some m) ∷ rest) moves → told_by said ≡ Err (refusal (n + 1) reason.TooMany)
+  pub overflows : (m : Move) → are_too_many (moves ++ m ∷ []) ≡ true → SaidSoFar said n (Ok (Some m) ∷ rest) moves → told_by said ≡ Err (refused_line (n + 1) reason.TooMany)
   overflows m many so = stops (Ok (Some m)) reason.TooMany (rw many refl) so
 
 -- there is no other line
@@ -124,7 +124,7 @@ pub all_said : {said : List Spelled} {n : ℕ} {moves : List Move} → SaidSoFar
 all_said {said} {n} {moves} so =
     let le = past said n so.left_is in
     let whole : moves_of said ≡ moves = ap moves_of (sym (take_all n said le)) ∙ so.moves_are in
-    let none : refusals_of said ≡ [] = none_of (refusal_at said) (length said) 0 (λ i lt. ap (refusal_at said) (zero-add i) ∙ ap (told i) (so.none i (omega arith))) in
+    let none : refused_lines said ≡ [] = none_of (refusal_at said) (length said) 0 (λ i lt. ap (refusal_at said) (zero-add i) ∙ ap (told i) (so.none i (omega arith))) in
     ap₂ first_or none whole
 
 -- the next line, and what it spells

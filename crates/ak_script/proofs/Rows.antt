@@ -2,17 +2,17 @@
 use Rattle.std.proofs.Common.{◌≡◌, ℕ, refl, List, [], ◌∷◌, ◌++◌, true, false, Ok, Err, codes}
 use Rattle.ak_core.specs.declared.moves.Move.{Move}
 use Rattle.ak_core.specs.declared.moves.Move.TheVariants.{SetPte, ReadPte, Eenter, Run}
-use Rattle.ak_script.specs.declared.fault.Kind.{Kind}
-use Rattle.ak_script.specs.declared.fault.Kind.TheVariants as why
-use Rattle.ak_script.specs.Script.{refusal, script_of}
+use Rattle.ak_script.specs.declared.fault.Refusal.{Refusal}
+use Rattle.ak_script.specs.declared.fault.Refusal.TheVariants as why
+use Rattle.ak_script.specs.Script.{refused_line, script_of}
 
 -- the text says these moves
 abbrev Says : List ℕ → List Move → Type 0
 Says text moves = script_of text ≡ Ok moves
 
 -- the text is refused at this line, for this reason
-abbrev Refuses : List ℕ → ℕ → Kind → Type 0
-Refuses text line reason = script_of text ≡ Err (refusal line reason)
+abbrev Refuses : List ℕ → ℕ → Refusal → Type 0
+Refuses text line reason = script_of text ≡ Err (refused_line line reason)
 
 empty_row : Says [] []
 unfolding script_of

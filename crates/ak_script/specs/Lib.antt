@@ -1,5 +1,5 @@
-pub mod Cuts
-pub mod Kind
+pub mod Splitting
+pub mod Refusal
 pub mod Line
 pub mod Operand
 pub mod Script

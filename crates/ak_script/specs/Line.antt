@@ -4,8 +4,8 @@ use Rattle.std.specs.List.{find, list_all, starts_with}
 use Rattle.std.specs.Str.{bytes_eq}
 use Rattle.ak_core.specs.declared.moves.Move.{Move}
 use Rattle.ak_core.specs.declared.moves.Move.TheVariants.{SetPte, ReadPte, Eenter, Run}
-use Rattle.ak_script.specs.declared.fault.Kind.{Kind}
-use Rattle.ak_script.specs.declared.fault.Kind.TheVariants as why
+use Rattle.ak_script.specs.declared.fault.Refusal.{Refusal}
+use Rattle.ak_script.specs.declared.fault.Refusal.TheVariants as why
 use Rattle.ak_script.specs.Operand.{Operand, PAGE, FRAME, LP, VALUE, TURNS, FLAGS, Meaning, meaning_of, ◌>>=◌}
 use Rattle.ak_script.specs.Words.{words_of}
 
@@ -44,19 +44,19 @@ abbrev pub row_of : List ℕ → Option Row
 row_of first = find (λ r. bytes_eq r.word first) rows
 
 -- the move that these words make, or what the first of them that is wrong lacks
-abbrev pub made_of : (operands : List Operand) → Makes operands → List (List ℕ) → Result Move Kind
+abbrev pub made_of : (operands : List Operand) → Makes operands → List (List ℕ) → Result Move Refusal
 made_of [] move words = Ok move
 made_of (kind ∷ kinds) move [] = Err why.Words
 made_of (kind ∷ kinds) move (word ∷ words) = meaning_of kind word >>= λ x. made_of kinds (move x) words
 
 -- the move that a row makes of the words after its own
-abbrev pub move_of : Option Row → List (List ℕ) → Result Move Kind
+abbrev pub move_of : Option Row → List (List ℕ) → Result Move Refusal
 move_of None words = Err why.Unknown
 move_of (Some r) words = if length words == length r.operands then made_of r.operands r.move words else Err why.Words
 
 -- what a line spells: nothing where it is skipped, else a move; or why it is refused
 abbrev pub Spelled : Type 0
-Spelled = Result (Option Move) Kind
+Spelled = Result (Option Move) Refusal
 
 -- what a line of these words spells
 abbrev pub spelled_by : List ℕ → List (List ℕ) → Spelled

@@ -3,6 +3,7 @@ use Rattle.std.specs.Prelude.{ℕ, ◌+◌, ◌-◌, ◌*◌, List, Bool, not, �
 use Rattle.std.specs.Char.{is_ascii_digit}
 use Rattle.std.specs.List.{filter, fold, list_all, list_any, slice_split}
 use Rattle.std.specs.Str.{bytes_eq}
+use Rattle.ak_core.specs.FlagLetters.{PRESENT, WRITABLE, EXECUTABLE, ACCESSED, DIRTY, letters}
 use Rattle.ak_core.specs.declared.page.Flags.{Flags}
 
 -- a space (32) or a tab (9)
@@ -29,10 +30,9 @@ number_of word = if is_number word then Some (decimal word) else None
 abbrev pub has : List ℕ → ℕ → Bool
 has word letter = list_any (λ b. b == letter) word
 
--- the flags that the word spells, if it spells some: letters of `pwxad` (112, 119, 120, 97, 100), each once and in
--- this order, or a dash for none
+-- the flags that the word spells, if it spells some: letters of flags, each once and in their order, or a dash for none
 abbrev pub flags_of : List ℕ → Option Flags
 flags_of word =
-    if bytes_eq word (codes "-") || (not (length word == 0) && bytes_eq word (filter (has word) (codes "pwxad")))
-    then Some (record { p = has word 112; w = has word 119; x = has word 120; a = has word 97; d = has word 100 })
+    if bytes_eq word (codes "-") || (not (length word == 0) && bytes_eq word (filter (has word) letters))
+    then Some (record { p = has word PRESENT; w = has word WRITABLE; x = has word EXECUTABLE; a = has word ACCESSED; d = has word DIRTY })
     else None

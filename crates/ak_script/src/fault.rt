@@ -6,7 +6,7 @@ use thiserror::Error;
 
 /// Why a line of a script is refused.
 #[derive(Clone, Copy, PartialEq, Eq, Debug, Error)]
-pub enum Kind {
+pub enum Refusal {
     /// It has a byte over 127.
     #[error("a byte is over 127")]
     NotAscii = 1,
@@ -30,8 +30,8 @@ pub enum Kind {
     Flags = 7,
 }
 
-impl Kind {
-    ghost use Rattle.ak_script.specs.Kind.{number_of, word_of};
+impl Refusal {
+    ghost use Rattle.ak_script.specs.Refusal.{number_of, word_of};
 
     /// The number of the refusal.
     pub fn number(self) -> u8
@@ -45,13 +45,13 @@ impl Kind {
         ensures { result.now ≡ word_of self }
     {
         match self {
-            Kind::NotAscii => "notascii",
-            Kind::Unknown => "unknown",
-            Kind::Words => "words",
-            Kind::Number => "number",
-            Kind::Range => "range",
-            Kind::TooMany => "toomany",
-            Kind::Flags => "flags",
+            Refusal::NotAscii => "notascii",
+            Refusal::Unknown => "unknown",
+            Refusal::Words => "words",
+            Refusal::Number => "number",
+            Refusal::Range => "range",
+            Refusal::TooMany => "toomany",
+            Refusal::Flags => "flags",
         }
     }
 }
@@ -65,7 +65,7 @@ pub enum ScriptFault {
         /// The line.
         line: u32,
         /// Why it is refused.
-        why: Kind,
+        why: Refusal,
     },
     /// Memory ran out.
     #[error("out of memory")]

@@ -5,17 +5,17 @@ ghost use Rattle.std.specs.List.{list_all};
 ghost use Rattle.ak_script.specs.Operand.{PAGE, FRAME, LP, VALUE, TURNS, meaning_of, number_in as the_number};
 ghost use Rattle.ak_script.specs.Words.{decimal as the_decimal, is_number as the_test};
 
-use crate::fault::Kind;
+use crate::fault::Refusal;
 use ak_core::{Frame, Lp, Page};
 
 // The most turns of one move.
-const MOST_TURNS: u64 = 1_000_000;
+const MOST_TURNS_OF_MOVE: u64 = 1_000_000;
 
 // The last processor.
 const LAST_LP: u64 = 3;
 
 /// A page.
-pub fn page_of(word: &[u8]) -> Result<Page, Kind>
+pub fn page_of(word: &[u8]) -> Result<Page, Refusal>
     ensures { result ≡ meaning_of PAGE word.now }
 {
     let number = number_in(word, 0, u64::from(u32::MAX))?;
@@ -23,7 +23,7 @@ pub fn page_of(word: &[u8]) -> Result<Page, Kind>
 }
 
 /// A frame.
-pub fn frame_of(word: &[u8]) -> Result<Frame, Kind>
+pub fn frame_of(word: &[u8]) -> Result<Frame, Refusal>
     ensures { result ≡ meaning_of FRAME word.now }
 {
     let number = number_in(word, 0, u64::from(u32::MAX))?;
@@ -31,7 +31,7 @@ pub fn frame_of(word: &[u8]) -> Result<Frame, Kind>
 }
 
 /// A processor.
-pub fn lp_of(word: &[u8]) -> Result<Lp, Kind>
+pub fn lp_of(word: &[u8]) -> Result<Lp, Refusal>
     ensures value { result ≡ meaning_of LP word.now }
     ensures range { IfOk result (λ lp. lp.0 ≤ 3) }
 {
@@ -40,34 +40,34 @@ pub fn lp_of(word: &[u8]) -> Result<Lp, Kind>
 }
 
 /// A value for the enclave.
-pub fn value_of(word: &[u8]) -> Result<u64, Kind>
+pub fn value_of(word: &[u8]) -> Result<u64, Refusal>
     ensures { result ≡ meaning_of VALUE word.now }
 {
     number_in(word, 0, u64::MAX)
 }
 
 /// A number of turns.
-pub fn turns_of(word: &[u8]) -> Result<u32, Kind>
+pub fn turns_of(word: &[u8]) -> Result<u32, Refusal>
     ensures value { result ≡ meaning_of TURNS word.now }
     ensures least { IfOk result (λ turns. 1 ≤ turns) }
     ensures most { IfOk result (λ turns. turns ≤ 1000000) }
 {
-    let number = number_in(word, 1, MOST_TURNS)?;
+    let number = number_in(word, 1, MOST_TURNS_OF_MOVE)?;
     Ok(number as u32)
 }
 
 // A number in a range.
-fn number_in(word: &[u8], least: u64, most: u64) -> Result<u64, Kind>
+fn number_in(word: &[u8], least: u64, most: u64) -> Result<u64, Refusal>
     ensures value { result ≡ the_number least most word.now }
     ensures least { IfOk result (λ number. least ≤ number) }
     ensures most { IfOk result (λ number. number ≤ most) }
 {
     if !is_number(word) {
-        return Err(Kind::Number);
+        return Err(Refusal::Number);
     }
     match decimal(word) {
         Some(number) if (least..=most).contains(&number) => Ok(number),
-        _ => Err(Kind::Range),
+        _ => Err(Refusal::Range),
     }
 }
 

@@ -1,12 +1,12 @@
 // A script as it is read: what the kernel does, a line each.
 ghost use Rattle.std.specs.Prelude.{◌≡◌, ◌⊎◌, ◌<◌, ◌^◌, ℕ, List, length, IfOk, Ok, Err};
 ghost use Rattle.ak_core.specs.declared.moves.Move.{Move};
-ghost use Rattle.ak_script.specs.Script.{refusal, script_of, turns_of as the_turns, KeepsLimits};
-ghost use Rattle.ak_script.specs.declared.fault.Kind.{Kind};
+ghost use Rattle.ak_script.specs.Script.{refused_line, script_of, turns_of as the_turns, KeepsLimits};
+ghost use Rattle.ak_script.specs.declared.fault.Refusal.{Refusal};
 
-use crate::cuts::split_line;
-use crate::fault::{Kind, ScriptFault};
+use crate::fault::{Refusal, ScriptFault};
 use crate::line::read_line;
+use crate::splitting::split_line;
 use ak_core::Move;
 use std::alloc::Global;
 use std::marker::Model;
@@ -15,7 +15,7 @@ use std::marker::Model;
 const MOST_MOVES: usize = 20_000;
 
 // The most turns of a script's moves.
-const MOST_TURNS: u32 = 20_000_000;
+const MOST_TURNS_OF_SCRIPT: u32 = 20_000_000;
 
 /// The moves of a script. Contracts see their list.
 #[derive(Debug, Drop)]
@@ -43,11 +43,11 @@ impl Script {
     pub fn read(alloc: Global, bytes: &[u8]) -> Result<Script, ScriptFault>
         requires { length bytes.now < 2 ^ 32 }
         ensures read { IfOk result (λ moves. script_of bytes.now ≡ Ok moves) }
-        ensures refused { (line : ℕ) (why : Kind) → result ≡ Err (ScriptFault.Refused line why) → script_of bytes.now ≡ Err (refusal line why) }
+        ensures refused { (line : ℕ) (why : Refusal) → result ≡ Err (ScriptFault.Refused line why) → script_of bytes.now ≡ Err (refused_line line why) }
 
         // Want of memory alone comes in the place of either.
         ensures reads { (moves : List Move) → script_of bytes.now ≡ Ok moves → (result ≡ Ok moves) ⊎ (result ≡ Err ScriptFault.OutOfMemory) }
-        ensures refuses { (line : ℕ) (why : Kind) → script_of bytes.now ≡ Err (refusal line why) → (result ≡ Err (ScriptFault.Refused line why)) ⊎ (result ≡ Err ScriptFault.OutOfMemory) }
+        ensures refuses { (line : ℕ) (why : Refusal) → script_of bytes.now ≡ Err (refused_line line why) → (result ≡ Err (ScriptFault.Refused line why)) ⊎ (result ≡ Err ScriptFault.OutOfMemory) }
     {
         match read_moves(alloc, bytes) {
             Ok(moves) => Ok(Script { moves }),
@@ -68,7 +68,7 @@ impl Script {
 fn read_moves(alloc: Global, bytes: &[u8]) -> Result<Vec<Move>, ScriptFault>
     requires { length bytes.now < 2 ^ 32 }
     ensures read { IfOk result (λ moves. script_of bytes.now ≡ Ok moves.items) }
-    ensures refused { (line : ℕ) (why : Kind) → result ≡ Err (ScriptFault.Refused line why) → script_of bytes.now ≡ Err (refusal line why) }
+    ensures refused { (line : ℕ) (why : Refusal) → result ≡ Err (ScriptFault.Refused line why) → script_of bytes.now ≡ Err (refused_line line why) }
     ensures limits { IfOk result (λ moves. KeepsLimits moves.items) }
 {
     let mut moves = Vec::new(alloc);
@@ -83,10 +83,10 @@ fn read_moves(alloc: Global, bytes: &[u8]) -> Result<Vec<Move>, ScriptFault>
             Ok(None) => {}
             Ok(Some(next)) => {
                 turns += turns_of(next);
-                if moves.len() == MOST_MOVES || turns > MOST_TURNS {
+                if moves.len() == MOST_MOVES || turns > MOST_TURNS_OF_SCRIPT {
                     return Err(ScriptFault::Refused {
                         line: number,
-                        why: Kind::TooMany,
+                        why: Refusal::TooMany,
                     });
                 }
                 moves.push(next)?;

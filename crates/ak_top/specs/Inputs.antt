@@ -7,7 +7,7 @@ use Rattle.ak_measure.specs.Signers.{Signed, signers_of, knows, allows}
 use Rattle.ak_image.specs.Image.{Image}
 use Rattle.ak_image.specs.Reading.{image_of}
 use Rattle.ak_image.specs.Built.{digest_of}
-use Rattle.ak_script.specs.Script.{Refusal, script_of}
+use Rattle.ak_script.specs.Script.{RefusedLine, script_of}
 use Rattle.ak_top.specs.Words.{Command, Run, Measure}
 use Rattle.ak_top.specs.Seen.{Contents}
 use Rattle.ak_top.specs.declared.inputs.Inputs.{Inputs}
@@ -27,8 +27,8 @@ or_trouble trouble result = result_map_both (λ x. x) trouble result
 -- ---- Each file
 
 -- the trouble of a refused script
-abbrev pub script_trouble : Refusal → Trouble
-script_trouble refusal = ScriptRefused refusal.line refusal.why
+abbrev pub script_trouble : RefusedLine → Trouble
+script_trouble refused = ScriptRefused refused.line refused.why
 
 -- the bytes of a file, where they are there and not too many
 abbrev pub bytes_in : Place → Option (List ℕ) → Result (List ℕ) Trouble

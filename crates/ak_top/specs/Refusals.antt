@@ -6,8 +6,8 @@ use Rattle.ak_image.specs.declared.fault.ImageFault.{ImageFault}
 use Rattle.ak_image.specs.declared.fault.ImageFault.TheVariants as image
 use Rattle.ak_measure.specs.declared.fault.SignersFault.{SignersFault}
 use Rattle.ak_measure.specs.declared.fault.SignersFault.TheVariants as signers
-use Rattle.ak_script.specs.declared.fault.Kind.{Kind}
-use Rattle.ak_script.specs.Kind.{number_of, word_of}
+use Rattle.ak_script.specs.declared.fault.Refusal.{Refusal}
+use Rattle.ak_script.specs.Refusal.{number_of, word_of}
 
 -- of an image; where a page is refused, its number follows
 abbrev pub image_refusal : ImageFault → List ℕ
@@ -39,5 +39,5 @@ signers_refusal signers.Repeated = codes "signers refused: 4 repeated"
 signers_refusal signers.OutOfMemory = codes "signers refused: out of memory"  -- never told: no bytes are refused for it
 
 -- of a line of a script, after the line's number
-abbrev pub script_refusal : Kind → List ℕ
+abbrev pub script_refusal : Refusal → List ℕ
 script_refusal why = (codes ": " ++ decimal (number_of why) ++ codes " ") ++ (word_of why ++ codes "\n")

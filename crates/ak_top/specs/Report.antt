@@ -1,6 +1,7 @@
 -- The report of a journal: the bytes of its text.
 use Rattle.std.specs.Prelude.{ℕ, List, [], ◌∷◌, ◌++◌, ◌+◌, Bool, true, false, ◌||◌, if◌then◌else◌, codes}
 use Rattle.std.specs.Fmt.{decimal}
+use Rattle.ak_core.specs.FlagLetters.{PRESENT, WRITABLE, EXECUTABLE, ACCESSED, DIRTY}
 use Rattle.ak_core.specs.Journal.{Journal}
 use Rattle.ak_core.specs.declared.page.Flags.{Flags}
 use Rattle.ak_core.specs.declared.moves.Move.{Move}
@@ -26,7 +27,7 @@ letter false name = []
 abbrev pub flags_text : Flags → List ℕ
 flags_text flags =
     if flags.p || flags.w || flags.x || flags.a || flags.d
-    then letter flags.p (codes "p") ++ letter flags.w (codes "w") ++ letter flags.x (codes "x") ++ letter flags.a (codes "a") ++ letter flags.d (codes "d")
+    then letter flags.p (PRESENT ∷ []) ++ letter flags.w (WRITABLE ∷ []) ++ letter flags.x (EXECUTABLE ∷ []) ++ letter flags.a (ACCESSED ∷ []) ++ letter flags.d (DIRTY ∷ [])
     else codes "-"
 
 -- a move: its name and its operands

@@ -11,13 +11,10 @@ use crate::report::report_text;
 use crate::session::run_moves;
 use crate::trouble::Trouble;
 use crate::words::Names;
-use ak_core::Journal;
+use ak_core::{Journal, PROGRAM_FRAME};
 use ak_machine::Machine;
 use ak_outside::{Files, Sink, write_lines};
 use std::alloc::Global;
-
-/// The frames of the SECS, the VA page and the runtime's pages.
-const BUILD_FRAMES: u32 = 8;
 
 /// The processors of a run.
 const PROCESSORS: u8 = 1;
@@ -36,7 +33,7 @@ fn write_report<O: Sink>(alloc: Global, journal: &Journal, out: &mut O) -> Resul
 fn run_inputs(alloc: Global, inputs: &Inputs) -> Result<Journal, Trouble>
     ensures { Runs result inputs.now }
 {
-    let frames = BUILD_FRAMES + inputs.image.pages();
+    let frames = PROGRAM_FRAME + inputs.image.pages();
     let machine = Machine::build(alloc, &inputs.image, &inputs.signers, frames, PROCESSORS)?;
     Ok(run_moves(alloc, machine, inputs.script.moves())?)
 }

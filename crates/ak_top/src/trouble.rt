@@ -15,7 +15,7 @@ use ak_core::{BuildFault, OutOfMemory, Page};
 use ak_image::ImageFault;
 use ak_measure::SignersFault;
 use ak_outside::{FilesFault, Sink, SinkFault, write_three, write_two};
-use ak_script::{Kind, ScriptFault};
+use ak_script::{Refusal, ScriptFault};
 use itoa::Buffer;
 use std::alloc::AllocError;
 
@@ -47,7 +47,7 @@ pub enum Trouble {
     /// The signers are refused.
     SignersRefused(SignersFault),
     /// The script is refused at this line, the first that is.
-    ScriptRefused(u32, Kind),
+    ScriptRefused(u32, Refusal),
     /// The signers have no name that is the image's signer.
     UnknownSigner,
     /// The image's signer did not sign its measurement.
@@ -262,7 +262,7 @@ fn place_text<'a>(buffer: &'a mut Buffer, trouble: Trouble, command: Option<Comm
 }
 
 // Why a line of a script is refused, after its number.
-fn write_reason<E: Sink>(err: &mut E, why: Kind) -> Result<(), SinkFault>
+fn write_reason<E: Sink>(err: &mut E, why: Refusal) -> Result<(), SinkFault>
     ensures ok { OnOk result (E.taken err.new ≡ with_more (E.taken err.old) (script_refusal why)) }
     ensures err { OnErr result (TakesFront (E.taken err.old) (E.taken err.new) (script_refusal why)) }
     ensures count { Counts (E.faults err.old) (E.faults err.new) result }

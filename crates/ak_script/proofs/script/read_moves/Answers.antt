@@ -8,10 +8,10 @@ use Rattle.std.proofs.lemmas.List.Sums.{sum_by_push}
 use Rattle.ak_core.specs.declared.moves.Move.{Move}
 use Rattle.ak_script.specs.Line.{spelled}
 use Rattle.ak_script.specs.Script.{script_of, turns_of}
-use Rattle.ak_script.proofs.Cutting.{lines_none}
+use Rattle.ak_script.proofs.Splits.{lines_none}
 use Rattle.ak_script.proofs.Reading.{SaidSoFar, skips, adds, refuses, overflows, all_said, next, too_many, not_too_many}
 use Rattle.ak_script.proofs.script.read_moves.Goals as goal
-use Rattle.ak_script.proofs.script.read_moves.Goals.{then-len-eq-MOST_MOVES-via-then-len-eq-MOST_MOVES, then-len-eq-MOST_MOVES-via-else-len-eq-MOST_MOVES+then-turns-gt-MOST_TURNS}
+use Rattle.ak_script.proofs.script.read_moves.Goals.{then-len-eq-MOST_MOVES-via-then-len-eq-MOST_MOVES, then-len-eq-MOST_MOVES-via-else-len-eq-MOST_MOVES+then-turns-gt-MOST_TURNS_OF_SCRIPT}
 
 pub loop-rest-preserved-in-Ok-None : goal.loop-rest-preserved-in-Ok-None
 loop-rest-preserved-in-Ok-None c =
@@ -35,7 +35,7 @@ returns-then-len-eq-MOST_MOVES-clause-refused c number why is =
     let over : (length c.loop-rest.moves.items ≡ 20000) ⊎ (20000000 < c.loop-rest.turns + turns_of m) =
     elim c.then-len-eq-MOST_MOVES.branch [
       | then-len-eq-MOST_MOVES-via-then-len-eq-MOST_MOVES w ↦ inl (omega arith)
-      | then-len-eq-MOST_MOVES-via-else-len-eq-MOST_MOVES+then-turns-gt-MOST_TURNS w ↦ inr (omega arith)
+      | then-len-eq-MOST_MOVES-via-else-len-eq-MOST_MOVES+then-turns-gt-MOST_TURNS_OF_SCRIPT w ↦ inr (omega arith)
     ] in
     let refused = overflows m (too_many c.loop-rest.moves.items m c.loop-rest.turns c.loop-rest.invariant.turns over) said in
     cc

@@ -1,8 +1,8 @@
 use Rattle.std.proofs.Common.{◌∙◌, ◌∷◌, ap, ap₂, sym, arith, length, drop}
 use Rattle.std.proofs.lemmas.List.{drop-drop, take_all, drop_all}
 use Rattle.std.specs.Str.Lines.{lines, strip_carriage_return}
-use Rattle.ak_script.proofs.Cutting.{rest_from, lines-first, lines-last}
-use Rattle.ak_script.proofs.cuts.split_line.Goals as goal
+use Rattle.ak_script.proofs.Splits.{rest_from, lines-first, lines-last}
+use Rattle.ak_script.proofs.splitting.split_line.Goals as goal
 
 pub returns-in_default-clause-value : goal.returns-in_default-clause-value
 returns-in_default-clause-value c =

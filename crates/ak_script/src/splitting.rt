@@ -2,9 +2,9 @@
 ghost use Rattle.std.specs.Prelude.{◌≡◌, ◌<◌, ◌↔◌, [], ◌∷◌, length, not, position, ◌==◌, IfSome, IsTrue};
 ghost use Rattle.std.specs.Str.Lines.{lines, strip_carriage_return};
 ghost use Rattle.ak_script.specs.Words.{is_blank as the_blank, words_of};
-ghost use Rattle.ak_script.specs.Cuts.{AreWords, word_before};
+ghost use Rattle.ak_script.specs.Splitting.{AreWords, word_before};
 
-use crate::fault::Kind;
+use crate::fault::Refusal;
 
 // The first line of a text without its ending, and what follows it.
 pub fn split_line(text: &[u8]) -> (&[u8], &[u8])
@@ -49,37 +49,37 @@ pub fn split_word(text: &[u8]) -> (&[u8], &[u8])
 }
 
 // The word of a text that has one.
-pub fn one_word(text: &[u8]) -> Result<&[u8], Kind>
+pub fn one_word(text: &[u8]) -> Result<&[u8], Refusal>
     ensures { AreWords result (λ word. word.now ∷ []) 1 (words_of text.entry.now) }
 {
     let (first, rest) = split_word(text);
     if first.is_empty() || has_word(rest) {
-        return Err(Kind::Words);
+        return Err(Refusal::Words);
     }
     Ok(first)
 }
 
 // The words of a text that has two.
-pub fn two_words(text: &[u8]) -> Result<(&[u8], &[u8]), Kind>
+pub fn two_words(text: &[u8]) -> Result<(&[u8], &[u8]), Refusal>
     ensures { AreWords result (λ words. words.0.now ∷ words.1.now ∷ []) 2 (words_of text.entry.now) }
 {
     let (first, rest) = split_word(text);
     let (second, rest) = split_word(rest);
     if second.is_empty() || has_word(rest) {
-        return Err(Kind::Words);
+        return Err(Refusal::Words);
     }
     Ok((first, second))
 }
 
 // The words of a text that has three.
-pub fn three_words(text: &[u8]) -> Result<(&[u8], &[u8], &[u8]), Kind>
+pub fn three_words(text: &[u8]) -> Result<(&[u8], &[u8], &[u8]), Refusal>
     ensures { AreWords result (λ words. words.0.now ∷ words.1.now ∷ words.2.now ∷ []) 3 (words_of text.entry.now) }
 {
     let (first, rest) = split_word(text);
     let (second, rest) = split_word(rest);
     let (third, rest) = split_word(rest);
     if third.is_empty() || has_word(rest) {
-        return Err(Kind::Words);
+        return Err(Refusal::Words);
     }
     Ok((first, second, third))
 }

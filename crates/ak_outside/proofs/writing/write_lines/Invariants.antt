@@ -1,6 +1,6 @@
 use Rattle.std.proofs.Common.{◌≡◌, ◌-◌, ◌≤◌, length, take}
 use Rattle.ak_outside.specs.Taken.{with_more}
-use Rattle.ak_outside.proofs.pieces.write_lines.Given as goal
+use Rattle.ak_outside.proofs.writing.write_lines.Given as goal
 
 abbrev pub invariant-loop-start : goal.invariant-loop-start
 invariant-loop-start g l = record {

@@ -1,7 +1,7 @@
 use Rattle.std.proofs.Common.{◌∙◌, ◌-◌, arith, ap, take, drop}
 use Rattle.ak_outside.specs.Taken.{with_more}
 use Rattle.ak_outside.proofs.Fronts.{front_then, with_more-append, piece}
-use Rattle.ak_outside.proofs.pieces.write_lines.Goals as goal
+use Rattle.ak_outside.proofs.writing.write_lines.Goals as goal
 
 pub returns-in-Err-clause-err : goal.returns-in-Err-clause-err
 returns-in-Err-clause-err g c =

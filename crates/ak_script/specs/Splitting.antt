@@ -1,7 +1,7 @@
--- What the functions that cut a line into words say of them.
+-- What the functions that split a line into words say of them.
 use Rattle.std.specs.Prelude.{◌≡◌, ◌≢◌, ℕ, List, [], ◌∷◌, length, Result, MatchResult}
-use Rattle.ak_script.specs.declared.fault.Kind.{Kind}
-use Rattle.ak_script.specs.declared.fault.Kind.TheVariants as why
+use Rattle.ak_script.specs.declared.fault.Refusal.{Refusal}
+use Rattle.ak_script.specs.declared.fault.Refusal.TheVariants as why
 
 -- this word stands before those, if it is one
 abbrev pub word_before : List ℕ → List (List ℕ) → List (List ℕ)
@@ -9,5 +9,5 @@ word_before [] words = []
 word_before (b ∷ bs) words = (b ∷ bs) ∷ words
 
 -- the words are these, or of another number
-abbrev pub AreWords : {T : Type 0} → Result T Kind → (T → List (List ℕ)) → ℕ → List (List ℕ) → Type 0
+abbrev pub AreWords : {T : Type 0} → Result T Refusal → (T → List (List ℕ)) → ℕ → List (List ℕ) → Type 0
 AreWords result shown n words = MatchResult result (λ found. words ≡ shown found) (λ reason. (reason ≡ why.Words) × (length words ≢ n))

@@ -1,8 +1,8 @@
 use Rattle.std.proofs.Common.{◌∙◌, ◌-◌, ap, ap₂, sym, length, unwrap_or, drop, take, not}
 use Rattle.ak_script.specs.Words.{is_blank, words_of}
-use Rattle.ak_script.specs.Cuts.{word_before}
-use Rattle.ak_script.proofs.Cutting.{IsFirstWord, rest_from, unwrap_or-position, words_of-first, words_of-none}
-use Rattle.ak_script.proofs.cuts.split_word.Goals as goal
+use Rattle.ak_script.specs.Splitting.{word_before}
+use Rattle.ak_script.proofs.Splits.{IsFirstWord, rest_from, unwrap_or-position, words_of-first, words_of-none}
+use Rattle.ak_script.proofs.splitting.split_word.Goals as goal
 
 found : (c : goal.After-split_at) → IsFirstWord c.args.text.now (take (length c.args.text.now - c.unwrap_or-start.result) (drop c.unwrap_or-start.result c.args.text.now)) c.unwrap_or-start.result c.unwrap_or-end.result
 found c =
