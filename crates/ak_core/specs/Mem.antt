@@ -8,15 +8,15 @@ use Rattle.ak_core.specs.declared.page.Kind.{Kind}
 use Rattle.ak_core.specs.declared.page.Kind.TheVariants.{Write}
 
 -- an access, granted or refused: a page, and what is done to it
-abbrev pub Touch : Type 0
-Touch = Fault
+abbrev pub Access : Type 0
+Access = Fault
 
 -- the access of a page
-abbrev pub touch : ℕ → Kind → Touch
-touch p kind = record { page = record { 0 = p }; kind = kind }
+abbrev pub access_to : ℕ → Kind → Access
+access_to p kind = record { page = record { 0 = p }; kind = kind }
 
 -- a touch is granted, at the end of the list, or becomes the refused one. Only a page that the memory holds is granted
-pub record Touches {T : Type 0} (t : Touch) (result : Result T Fault) (holds : ℕ → Bool) (before after : List Touch) (refused_before refused : Option Touch) : Type 0 where
+pub record Touches {T : Type 0} (t : Access) (result : Result T Fault) (holds : ℕ → Bool) (before after : List Access) (refused_before refused : Option Access) : Type 0 where
   pub ok : OnOk result (after ≡ before ++ t ∷ [])
   pub held : OnOk result (holds t.page.0 ≡ true)
   pub unrefused : OnOk result (refused ≡ refused_before)
@@ -25,7 +25,7 @@ pub record Touches {T : Type 0} (t : Touch) (result : Result T Fault) (holds : �
   pub refused_is : IfErr result (λ f. refused ≡ Some t)
 
 -- the page was touched in this turn
-abbrev pub is_touched : List Touch → ℕ → Bool
+abbrev pub is_touched : List Access → ℕ → Bool
 is_touched granted p = list_any (λ t. t.page.0 == p) granted
 
 -- an access that writes
@@ -34,7 +34,7 @@ is_write Write = true
 is_write _ = false
 
 -- and for writing
-abbrev pub is_writable : List Touch → ℕ → Bool
+abbrev pub is_writable : List Access → ℕ → Bool
 is_writable granted p = list_any (λ t. (t.page.0 == p) && is_write t.kind) granted
 
 -- one page has these bytes, and the others stay

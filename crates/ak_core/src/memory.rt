@@ -1,12 +1,12 @@
 // Memory as a turn sees it.
 ghost use Rattle.std.specs.Prelude.{◌≡◌, ◌<◌, ℕ, Bool, true, List, [], None, Option, length, slice_index, slice_set};
-ghost use Rattle.ak_core.specs.Mem.{Touch, Tables, Touches, touch, is_touched, is_writable, with_page};
+ghost use Rattle.ak_core.specs.Mem.{Access, Tables, Touches, access_to, is_touched, is_writable, with_page};
 ghost use Rattle.ak_core.specs.declared.page.Kind.TheVariants.{Read, Write, Exec};
 
 use crate::{Fault, Page};
 
 /// Pages of 4096 bytes. A turn begins with no page touched; a page is touched before it is read or written; and a turn
-/// makes at most four touches.
+/// makes at most four accesses.
 pub trait Mem {
     /// The pages that it holds. No call changes which they are.
     ghost holds: { Self → ℕ → Bool };
@@ -14,11 +14,11 @@ pub trait Mem {
     /// The bytes of each page; of one that it doesn't hold they mean nothing.
     ghost bytes: { Self → ℕ → List ℕ };
 
-    /// The touches that were granted since the turn began, in order.
-    ghost granted: { Self → List Touch };
+    /// The accesses that were granted since the turn began, in order.
+    ghost granted: { Self → List Access };
 
     /// The touch that was refused since the turn began, if one was.
-    ghost refused: { Self → Option Touch };
+    ghost refused: { Self → Option Access };
 
     /// The tables by which it finds its pages. No call changes them.
     ghost tables: { Self → Tables };
@@ -37,7 +37,7 @@ pub trait Mem {
     /// Touches a page for reading, or answers that very access.
     fn touch_read(&mut self, p: Page) -> Result<(), Fault>
         requires few { length (granted self.old) < 4 }
-        ensures touch { Touches (touch p.0 Read) result (holds self.old) (granted self.old) (granted self.new) (refused self.old) (refused self.new) }
+        ensures touch { Touches (access_to p.0 Read) result (holds self.old) (granted self.old) (granted self.new) (refused self.old) (refused self.new) }
         ensures bytes { bytes self.new ≡ bytes self.old }
         ensures holds { holds self.new ≡ holds self.old }
         ensures tables { tables self.new ≡ tables self.old };
@@ -45,7 +45,7 @@ pub trait Mem {
     /// Touches a page for writing, or answers that very access.
     fn touch_write(&mut self, p: Page) -> Result<(), Fault>
         requires few { length (granted self.old) < 4 }
-        ensures touch { Touches (touch p.0 Write) result (holds self.old) (granted self.old) (granted self.new) (refused self.old) (refused self.new) }
+        ensures touch { Touches (access_to p.0 Write) result (holds self.old) (granted self.old) (granted self.new) (refused self.old) (refused self.new) }
         ensures bytes { bytes self.new ≡ bytes self.old }
         ensures holds { holds self.new ≡ holds self.old }
         ensures tables { tables self.new ≡ tables self.old };
@@ -53,7 +53,7 @@ pub trait Mem {
     /// Touches a page for executing, or answers that very access.
     fn touch_exec(&mut self, p: Page) -> Result<(), Fault>
         requires few { length (granted self.old) < 4 }
-        ensures touch { Touches (touch p.0 Exec) result (holds self.old) (granted self.old) (granted self.new) (refused self.old) (refused self.new) }
+        ensures touch { Touches (access_to p.0 Exec) result (holds self.old) (granted self.old) (granted self.new) (refused self.old) (refused self.new) }
         ensures bytes { bytes self.new ≡ bytes self.old }
         ensures holds { holds self.new ≡ holds self.old }
         ensures tables { tables self.new ≡ tables self.old };

@@ -4,10 +4,10 @@ use Rattle.std.specs.Prelude.{Bool}
 use Rattle.std.specs.Int.{w64, from_le_bytes, to_le_bytes}
 use Rattle.std.proofs.Math.Nat.{div-div-eq-div-mul}
 use Rattle.ak_core.specs.Layout.{Layout}
-use Rattle.ak_core.specs.Mem.{Touch}
+use Rattle.ak_core.specs.Mem.{Access}
 use Rattle.ak_core.specs.declared.registers.Regs.{Regs}
-use Rattle.ak_model.specs.Instructions.{Plan, le_bytes, le_value}
-use Rattle.ak_model.specs.Flat.{Flat, Next, Line, line_of}
+use Rattle.ak_model.specs.Flat.Instructions.{Plan, le_bytes, le_value}
+use Rattle.ak_model.specs.Flat.FlatRuns.{Flat, Next, Line, line_of}
 use Rattle.ak_exec.specs.Turns.{Shows, Completes, DoesLine}
 use Rattle.ak_exec.specs.Accessed.{EndsBefore}
 use Rattle.ak_exec.specs.Carried.{CarriesOut, turn_of}
@@ -16,17 +16,17 @@ use Rattle.ak_exec.specs.declared.operands.Unreached.TheVariants.{Outside, Refus
 use Rattle.ak_exec.specs.declared.turn.Turn.{Turn}
 
 -- the line was done whole
-pub completes : (layout : Layout) (line : Line) (after : Flat) (regs : Regs) (holds : ℕ → Bool) (bytes : ℕ → List ℕ) (granted : List Touch) → line ≡ line_of granted (Next after) → after.regs ≡ regs → Shows layout holds bytes after → Completes layout line (λ (end : Flat). Next end) regs holds bytes granted
+pub completes : (layout : Layout) (line : Line) (after : Flat) (regs : Regs) (holds : ℕ → Bool) (bytes : ℕ → List ℕ) (granted : List Access) → line ≡ line_of granted (Next after) → after.regs ≡ regs → Shows layout holds bytes after → Completes layout line (λ (end : Flat). Next end) regs holds bytes granted
 completes layout line after regs holds bytes granted e r shows =
-    record { all = ap (λ (l : Line). l.touches) (sym e); after = after; ends = ap (λ (l : Line). l.end) e; registers = r; shows = shows }
+    record { all = ap (λ (l : Line). l.accesses) (sym e); after = after; ends = ap (λ (l : Line). l.end) e; registers = r; shows = shows }
 
 -- or up to the operand
-pub ends_before : (layout : Layout) (line : Line) (unreached : Unreached) (turn : Turn) (regs : Regs) (holds : ℕ → Bool) (bytes : ℕ → List ℕ) (granted : List Touch) → turn ≡ turn_of unreached → EndsBefore line unreached granted → DoesLine layout line turn regs holds bytes granted
+pub ends_before : (layout : Layout) (line : Line) (unreached : Unreached) (turn : Turn) (regs : Regs) (holds : ℕ → Bool) (bytes : ℕ → List ℕ) (granted : List Access) → turn ≡ turn_of unreached → EndsBefore line unreached granted → DoesLine layout line turn regs holds bytes granted
 ends_before layout line Outside turn regs holds bytes granted e h = subst (λ t. DoesLine layout line t regs holds bytes granted) (sym e) h
 ends_before layout line (Refused fault) turn regs holds bytes granted e h = subst (λ t. DoesLine layout line t regs holds bytes granted) (sym e) h
 
 -- equal plans are carried out alike
-pub carries_as : (layout : Layout) (p q : Plan) (turn : Turn) (regs : Regs) (holds : ℕ → Bool) (old new : ℕ → List ℕ) (before after : List Touch) → p ≡ q → CarriesOut layout p turn regs holds old new before after → CarriesOut layout q turn regs holds old new before after
+pub carries_as : (layout : Layout) (p q : Plan) (turn : Turn) (regs : Regs) (holds : ℕ → Bool) (old new : ℕ → List ℕ) (before after : List Access) → p ≡ q → CarriesOut layout p turn regs holds old new before after → CarriesOut layout q turn regs holds old new before after
 carries_as layout p q turn regs holds old new before after e h = subst (λ x. CarriesOut layout x turn regs holds old new before after) e h
 
 -- ---- Numbers and their bytes

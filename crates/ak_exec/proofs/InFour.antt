@@ -4,7 +4,7 @@ use Rattle.std.proofs.Math.Path.{fun_ext}
 use Rattle.std.specs.Prelude.{Bool, true, false, ◌&&◌, ◌||◌, ◌==◌, nat_lt, slice_set, slice_index_or, if◌then◌else◌}
 use Rattle.std.proofs.lemmas.Bool.Decides.{nat_tests}
 use Rattle.std.proofs.lemmas.List.{get_or-set_same, get_or-set_other}
-use Rattle.ak_core.specs.Mem.{Touch, is_touched, is_writable, is_write, with_page}
+use Rattle.ak_core.specs.Mem.{Access, is_touched, is_writable, is_write, with_page}
 use Rattle.ak_exec.specs.FourPages.{are_inside, page_of, blank_page}
 
 both : (a b : Bool) → a && b ≡ true → (a ≡ true) × (b ≡ true)
@@ -16,7 +16,7 @@ touched-by q p true rest all e inside some more = let below = (both (nat_lt q 4)
 touched-by q p false rest all e inside some more = more (both (nat_lt q 4) all inside).1 some
 
 -- a page that was touched is one of the four
-pub touched_inside : (granted : List Touch) (p : ℕ) → are_inside granted ≡ true → is_touched granted p ≡ true → p < 4
+pub touched_inside : (granted : List Access) (p : ℕ) → are_inside granted ≡ true → is_touched granted p ≡ true → p < 4
 touched_inside [] p inside some = absurd (cc)
 touched_inside (t ∷ granted) p inside some =
     touched-by t.page.0 p (t.page.0 == p) (is_touched granted p) (are_inside granted) refl inside some (touched_inside granted p)
@@ -26,7 +26,7 @@ writable-by true w any other some more = refl
 writable-by false w any other some more = more some
 
 -- a page that was touched for writing was touched
-pub writable_touched : (granted : List Touch) (p : ℕ) → is_writable granted p ≡ true → is_touched granted p ≡ true
+pub writable_touched : (granted : List Access) (p : ℕ) → is_writable granted p ≡ true → is_touched granted p ≡ true
 writable_touched [] p some = some
 writable_touched (t ∷ granted) p some =
     writable-by (t.page.0 == p) (is_write t.kind) (is_writable granted p) (is_touched granted p) some (writable_touched granted p)

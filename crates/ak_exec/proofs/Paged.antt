@@ -7,8 +7,8 @@ use Rattle.std.proofs.lemmas.List.Edits.{paste_more, paste_all}
 use lib.Seq.{paste}
 use Rattle.ak_core.specs.Layout.{Layout}
 use Rattle.ak_core.specs.Mem.{with_page}
-use Rattle.ak_model.specs.Pages.{pages}
-use Rattle.ak_model.specs.Flat.{Flat, page_bytes, overwrite}
+use Rattle.ak_model.specs.Paging.Pages.{pages}
+use Rattle.ak_model.specs.Flat.FlatRuns.{Flat, page_bytes, overwrite}
 use Rattle.ak_exec.specs.Turns.{Shows}
 
 -- ---- One byte of the flat state, and of its page

@@ -5,7 +5,7 @@ use Rattle.std.specs.Bool.{beq, FalseIff}
 use Rattle.std.specs.Int.{cast_signed, cast_unsigned, int_wrapping_mul}
 use Rattle.std.proofs.lemmas.Int.{to_z_pos, of_z-to_z}
 use Rattle.std.proofs.lemmas.Bool.Decides.{nat_tests}
-use Rattle.ak_model.specs.Instructions.{top_bit, magnitude, product_fits}
+use Rattle.ak_model.specs.Flat.Instructions.{top_bit, magnitude, product_fits}
 
 -- a number by its sign, and how far it is from 0
 signed : Bool → ℕ → ℤ

@@ -3,8 +3,8 @@ use Rattle.std.proofs.Common.{◌≡◌, ℕ, zero, suc, ◌+◌, ◌-◌, ◌<�
 use Rattle.std.proofs.lemmas.List.{take_min, take_more}
 use Rattle.std.proofs.Math.Seq.{take-append-add}
 use Rattle.ak_core.specs.declared.instruction.Decoded.{Decoded}
-use Rattle.ak_model.specs.Encodings.{decode}
-use Rattle.ak_model.proofs.Decoding.{decode-take}
+use Rattle.ak_model.specs.Flat.Encodings.{decode}
+use Rattle.ak_model.proofs.Flat.Decoding.{decode-take}
 
 -- one more element was taken
 pub taken_more : (items new before rest : List ℕ) (i x : ℕ) → new ≡ items ++ x ∷ [] → items ≡ before ++ take i rest → x ≡ get_or rest i 0 → i < length rest → new ≡ before ++ take (i + 1) rest

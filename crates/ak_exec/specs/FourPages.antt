@@ -3,7 +3,7 @@ use Rattle.std.specs.Prelude.{◌≡◌, ℕ, zero, suc, Bool, true, false, ◌&
 use Rattle.std.specs.List.{list_all}
 use Rattle.std.proofs.lemmas.List.{length-replicate}
 use Rattle.std.proofs.lemmas.Bool.{eqb-true}
-use Rattle.ak_core.specs.Mem.{Touch}
+use Rattle.ak_core.specs.Mem.{Access}
 
 -- a page of zeros, which stands for each page after the fourth
 pub blank_page : List ℕ
@@ -41,5 +41,5 @@ abbrev pub is_in : Option ℕ → ℕ → Bool
 is_in out p = nat_lt p 4 && not (is_out out p)
 
 -- the accesses are of the four pages
-abbrev pub are_inside : List Touch → Bool
-are_inside touches = list_all (λ t. nat_lt t.page.0 4) touches
+abbrev pub are_inside : List Access → Bool
+are_inside accesses = list_all (λ t. nat_lt t.page.0 4) accesses

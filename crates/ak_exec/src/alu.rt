@@ -1,6 +1,6 @@
 // Arithmetic on registers.
 ghost use Rattle.std.specs.Prelude.{◌≡◌, ◌<◌, ◌*◌, ◌%◌, ◌^◌, bit_and, bit_or, bit_xor, not};
-ghost use Rattle.ak_model.specs.Instructions.{reg_of, with_reg, with_flags, add_flags, sub_flags, logic_flags, multiply_flags, shifted_left, shifted_right, plus, minus, product_fits, top_bit};
+ghost use Rattle.ak_model.specs.Flat.Instructions.{reg_of, with_reg, with_flags, add_flags, sub_flags, logic_flags, multiply_flags, shifted_left, shifted_right, plus, minus, product_fits, top_bit};
 
 use ak_core::Regs;
 

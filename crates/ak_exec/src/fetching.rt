@@ -1,8 +1,8 @@
 // The fetch of an instruction (SDM volume 3A, "Exception and Interrupt Reference").
 ghost use Rattle.std.specs.Prelude.{◌≡◌, ◌<◌, ◌≤◌, ◌+◌, ◌^◌, ◌++◌, [], None, true, length, take, drop};
-ghost use Rattle.ak_core.specs.Mem.{is_touched, touch};
+ghost use Rattle.ak_core.specs.Mem.{is_touched, access_to};
 ghost use Rattle.ak_core.specs.declared.page.Kind.TheVariants.{Exec};
-ghost use Rattle.ak_model.specs.Flat.{Flat};
+ghost use Rattle.ak_model.specs.Flat.FlatRuns.{Flat};
 ghost use Rattle.ak_exec.specs.Turns.{Shows};
 ghost use Rattle.ak_exec.specs.Kept.{SameMemory};
 ghost use Rattle.ak_exec.specs.Fetches.{Finds, IsSound, IfFound, Crosses, refused_fetch};
@@ -84,7 +84,7 @@ fn fetch_across<M: Mem>(mem: &mut M, next: Page, window: &mut ArrayVec<u8, LONGE
     ensures refused { M.refused mem.new ≡ refused_fetch result }
     ensures sound { IsSound result }
     ensures few { length (M.granted mem.new) ≤ length (M.granted mem.old) + 1 }
-    ensures crosses { Crosses (touch next.0 Exec) (window.old.items ++ M.bytes mem.old next.0) result (M.holds mem.old) (M.granted mem.old) (M.granted mem.new) }
+    ensures crosses { Crosses (access_to next.0 Exec) (window.old.items ++ M.bytes mem.old next.0) result (M.holds mem.old) (M.granted mem.old) (M.granted mem.new) }
 {
     if let Err(fault) = mem.touch_exec(next) {
         return Fetched::Refused(fault);

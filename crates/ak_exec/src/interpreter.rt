@@ -1,8 +1,8 @@
 // One instruction of the program.
 ghost use Rattle.std.specs.Prelude.{◌≡◌, ◌<◌, ◌≤◌, ◌+◌, ◌^◌, None, length};
 ghost use Rattle.ak_core.specs.declared.registers.Mode;
-ghost use Rattle.ak_model.specs.Flat.{Flat, line};
-ghost use Rattle.ak_model.specs.Instructions.{plan, HasRegisters};
+ghost use Rattle.ak_model.specs.Flat.FlatRuns.{Flat, line};
+ghost use Rattle.ak_model.specs.Flat.Instructions.{plan, HasRegisters};
 ghost use Rattle.ak_exec.specs.Turns.{Shows, DoesLine, IfIncomplete, IsVector, KeepsUnwritten, refused_by};
 ghost use Rattle.ak_exec.specs.Carried.{CarriesOut};
 ghost use Rattle.ak_exec.specs.Kept.{EndsTurn};

@@ -1,10 +1,10 @@
 // Operands in memory (SDM volume 1, "Operand Addressing").
 ghost use Rattle.std.specs.Prelude.{◌≡◌, ℕ, ◌<◌, ◌≤◌, ◌+◌, ◌-◌, ◌*◌, ◌/◌, ◌%◌, None, false, true, length, slice_index, IfNone, IfSome, IfOk, IfErr, OnOk, OnErr};
 ghost use Rattle.ak_core.specs.Layout.{Layout as Pages};
-ghost use Rattle.ak_core.specs.Mem.{Touches, touch, is_touched, is_writable};
+ghost use Rattle.ak_core.specs.Mem.{Touches, access_to, is_touched, is_writable};
 ghost use Rattle.ak_core.specs.declared.page.Kind.TheVariants.{Read, Write};
-ghost use Rattle.ak_model.specs.Pages.{pages};
-ghost use Rattle.ak_model.specs.Flat.{Flat, is_program, bytes_at, overwrite};
+ghost use Rattle.ak_model.specs.Paging.Pages.{pages};
+ghost use Rattle.ak_model.specs.Flat.FlatRuns.{Flat, is_program, bytes_at, overwrite};
 ghost use Rattle.ak_exec.specs.Turns.{KeepsUnwritten, Shows};
 ghost use Rattle.ak_exec.specs.Kept.{SameMemory};
 ghost use Rattle.ak_exec.specs.Accessed.{IsPlace, IsReached, IsUnreached, Reaches, TouchesBoth, refused_access};
@@ -40,7 +40,7 @@ fn place_of(layout: &Layout, address: u64, count: usize) -> Option<u64>
 fn touch<M: Mem>(mem: &mut M, page: Page, kind: Kind) -> Result<(), Fault>
     requires few { length (M.granted mem.old) < 4 }
     ensures same { SameMemory M.Mem mem.old mem.new }
-    ensures touch { Touches (touch page.0 kind) result (M.holds mem.old) (M.granted mem.old) (M.granted mem.new)
+    ensures touch { Touches (access_to page.0 kind) result (M.holds mem.old) (M.granted mem.old) (M.granted mem.new)
         (M.refused mem.old) (M.refused mem.new) }
 {
     match kind {

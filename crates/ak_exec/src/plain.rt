@@ -1,7 +1,7 @@
 // The instructions that ask nothing of memory.
 ghost use Rattle.std.specs.Prelude.{◌≡◌, ◌<◌, ◌+◌, ◌*◌, ◌^◌};
 ghost use Rattle.ak_core.specs.declared.instruction.Instr.TheVariants.{Divide, Enclu};
-ghost use Rattle.ak_model.specs.Instructions.{plan, Computes, HasRegisters, holds, moved as plan_moved, divide as divided, reg_of};
+ghost use Rattle.ak_model.specs.Flat.Instructions.{plan, Computes, HasRegisters, is_met, moved as plan_moved, divide as divided, reg_of};
 ghost use Rattle.ak_exec.specs.Plain.{AsksNoMemory, GoesOn};
 ghost use Rattle.ak_exec.specs.Turns.{IsVector, Performs};
 
@@ -34,7 +34,7 @@ pub(crate) fn moved(from: u64, by: i32) -> u64
 
 /// Where a conditional jump is taken (SDM volume 2, "Jcc").
 fn is_taken(cond: Cond, regs: &Regs) -> bool
-    ensures { result ≡ holds cond regs.now }
+    ensures { result ≡ is_met cond regs.now }
 {
     match cond {
         Cond::Below => regs.cf,

@@ -1,6 +1,6 @@
 // Each encoding and each trap, over a memory of four pages.
 ghost use Rattle.std.specs.Prelude.{◌≡◌, ◌<◌, true, length, IfOk};
-ghost use Rattle.ak_core.specs.Mem.{Touches, touch};
+ghost use Rattle.ak_core.specs.Mem.{Touches, access_to};
 ghost use Rattle.ak_core.specs.declared.registers.Mode.TheVariants.{Program};
 ghost use Rattle.ak_exec.specs.FourPages.{are_inside, are_whole, is_in};
 
@@ -57,7 +57,7 @@ impl FourPages {
 
     fn touch(&mut self, page: Page, kind: Kind) -> Result<(), Fault>
         requires few { length self.old.granted.items < 4 }
-        ensures touch { Touches (touch page.0 kind) result (is_in self.old.out) self.old.granted.items self.new.granted.items
+        ensures touch { Touches (access_to page.0 kind) result (is_in self.old.out) self.old.granted.items self.new.granted.items
             self.old.refused self.new.refused }
         ensures pages { self.new.pages ≡ self.old.pages }
         ensures out { self.new.out ≡ self.old.out }

@@ -1,6 +1,6 @@
 // Instructions that read or write one operand in memory, by what they ask.
 ghost use Rattle.std.specs.Prelude.{◌≡◌, ◌<◌, ◌≤◌, ◌+◌, ◌*◌, ◌/◌, None, length};
-ghost use Rattle.ak_model.specs.Instructions.{Reads, Writes, le_bytes, minus, plus, reg_of, rsp, with_reg};
+ghost use Rattle.ak_model.specs.Flat.Instructions.{Reads, Writes, le_bytes, minus, plus, reg_of, rsp, with_reg};
 ghost use Rattle.ak_exec.specs.Kept.{EndsTurn};
 ghost use Rattle.ak_exec.specs.Carried.{CarriesOut, turn_of};
 

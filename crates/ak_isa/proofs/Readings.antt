@@ -3,11 +3,11 @@ use Rattle.std.proofs.Common.{◌≡◌, ℕ, ◌≤◌, List, length, refl, sym
 use Rattle.ak_core.specs.declared.instruction.Instr.{Instr}
 use Rattle.ak_core.specs.declared.instruction.Decoded.{Decoded}
 use Rattle.ak_core.specs.declared.instruction.Decoded.TheVariants.{Whole, NeedMore, Illegal}
-use Rattle.ak_model.specs.Encodings.{decode}
-use Rattle.ak_model.specs.Beginnings.{Decodes, IfWhole}
-use Rattle.ak_model.specs.Instructions.{HasRegisters}
-use Rattle.ak_model.proofs.Decoding.{decode-length, decode-size, decode-registers}
-use Rattle.ak_model.proofs.BothWays.{decoded_both_ways}
+use Rattle.ak_model.specs.Flat.Encodings.{decode}
+use Rattle.ak_model.specs.Flat.Beginnings.{Decodes, IfWhole}
+use Rattle.ak_model.specs.Flat.Instructions.{HasRegisters}
+use Rattle.ak_model.proofs.Flat.Decoding.{decode-length, decode-size, decode-registers}
+use Rattle.ak_model.proofs.Flat.DecodedBothWays.{decoded_both_ways}
 
 pub both_ways : (bytes : List ℕ) (d : Decoded) → d ≡ decode bytes → Decodes bytes d
 both_ways bytes d e = subst (Decodes bytes) (sym e) (decoded_both_ways bytes)

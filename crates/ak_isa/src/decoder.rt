@@ -1,8 +1,8 @@
 // What bytes begin with (SDM volume 2, "Instruction Format").
 ghost use Rattle.std.specs.Prelude.{◌≡◌, ◌≤◌, ◌∷◌, length};
-ghost use Rattle.ak_model.specs.Encodings.{decode_by, table};
-ghost use Rattle.ak_model.specs.Beginnings.{Decodes, IfWhole};
-ghost use Rattle.ak_model.specs.Instructions.{HasRegisters};
+ghost use Rattle.ak_model.specs.Flat.Encodings.{decode_by, table};
+ghost use Rattle.ak_model.specs.Flat.Beginnings.{Decodes, IfWhole};
+ghost use Rattle.ak_model.specs.Flat.Instructions.{HasRegisters};
 
 use crate::jumps::{decode_call, decode_jump, decode_jump_if};
 use crate::narrow::decode_narrow;

@@ -1,6 +1,6 @@
 // Jumps and calls by a displacement of 32 bits from the next instruction.
 ghost use Rattle.std.specs.Prelude.{◌≡◌, ◌∷◌, []};
-ghost use Rattle.ak_model.specs.Encodings.{decode_by, table, jump_row};
+ghost use Rattle.ak_model.specs.Flat.Encodings.{decode_by, table, jump_row};
 
 use ak_core::{Cond, Decoded, Instr};
 

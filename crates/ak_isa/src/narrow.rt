@@ -1,6 +1,6 @@
 // Instructions that begin with a REX prefix 0100 0R0B (SDM volume 2, "REX Prefixes").
 ghost use Rattle.std.specs.Prelude.{◌≡◌, ◌∷◌, IsTrue};
-ghost use Rattle.ak_model.specs.Encodings.{decode_by, table, is_prefix};
+ghost use Rattle.ak_model.specs.Flat.Encodings.{decode_by, table, is_prefix};
 ghost use Rattle.ak_isa.specs.Opcodes.{is_one_of, byte_opcodes, names_memory};
 
 use crate::operands::{is_memory, reg, rm};

@@ -1,6 +1,6 @@
 // Instructions of 64 bits: those that begin with a REX prefix 0100 1R0B (SDM volume 2, "REX Prefixes").
 ghost use Rattle.std.specs.Prelude.{◌≡◌, ◌∷◌, ◌/◌, ◌%◌, ◌*◌, ◌+◌, IsTrue};
-ghost use Rattle.ak_model.specs.Encodings.{decode_by, table, is_prefix};
+ghost use Rattle.ak_model.specs.Flat.Encodings.{decode_by, table, is_prefix};
 ghost use Rattle.ak_isa.specs.Opcodes.{is_one_of, arithmetic_opcodes, move_opcodes, names_memory};
 
 use crate::operands::{digit, has_no_r, is_memory, is_registers, reg, rm};

@@ -4,8 +4,8 @@ use Rattle.std.proofs.lemmas.Bool.Decides.{nat_tests}
 use Rattle.std.specs.Prelude.{Option, is_some, not, ◌&&◌, ◌||◌, ◌==◌, if◌then◌else◌}
 use Rattle.std.specs.List.{list_any, range_with_len}
 use Rattle.ak_core.specs.Layout.{Layout}
-use Rattle.ak_model.specs.History.{History}
-use Rattle.ak_model.specs.Inside.{inside, since, another_inside}
+use Rattle.ak_model.specs.Paging.Histories.{History}
+use Rattle.ak_model.specs.Paging.Inside.{inside, since, another_inside}
 
 -- it is so after processor 0 left or entered, too
 pub still_alone : (past : History) (now : Option ℕ) → ((q : ℕ) → 1 ≤ q → inside past q ≡ false) → (q : ℕ) → 1 ≤ q → is_some (if q == 0 then now else since past q) ≡ false

@@ -4,8 +4,8 @@ use Rattle.std.specs.Prelude.{Some, None, is_some}
 use Rattle.ak_core.specs.Layout.{Layout}
 use Rattle.ak_core.specs.declared.page.Entry.{Entry}
 use Rattle.ak_core.specs.declared.registers.Regs.{Regs}
-use Rattle.ak_model.specs.Pages.{pages, all_pages}
-use Rattle.ak_model.specs.Build.{held_at_build, entry_at_build}
+use Rattle.ak_model.specs.Paging.Pages.{pages, all_pages}
+use Rattle.ak_model.specs.Paging.Build.{held_at_build, entry_at_build}
 use Rattle.ak_epcm.specs.Entries.{entry_at, HasDistinctPages}
 use Rattle.ak_pte.specs.declared.table.Pte.{Pte}
 use Rattle.ak_walk.specs.Agrees.{EntryAgrees}

@@ -11,9 +11,9 @@ use Rattle.std.specs.declared.alloc.Global.{Global}
 use Rattle.ak_core.specs.Layout.{Layout}
 use Rattle.ak_core.specs.declared.build.Build.TheVariants.{Resident}
 use Rattle.ak_core.specs.declared.page.Entry.{Entry}
-use Rattle.ak_model.specs.Pages.{pages}
-use Rattle.ak_model.specs.Holdings.{Held, PageFrame}
-use Rattle.ak_model.specs.Build.{held_at_build, entry_at_build}
+use Rattle.ak_model.specs.Paging.Pages.{pages}
+use Rattle.ak_model.specs.Paging.Holdings.{Held, PageFrame}
+use Rattle.ak_model.specs.Paging.Build.{held_at_build, entry_at_build}
 use Rattle.ak_epcm.specs.Entries.{entry_at, free_entry, is_of_page, has_page, HasNoFrame}
 use Rattle.ak_epcm.proofs.EntryLists.{entry_at-set_same, entry_at-set_other}
 use Rattle.ak_pte.specs.Table.{unmapped}

@@ -10,7 +10,7 @@ use Rattle.std.proofs.lemmas.Option.{gets, slice_get_read}
 use Rattle.std.specs.Prelude.{Option, Some, None, Vec, slice_get, nat_lt, if◌then◌else◌}
 use Rattle.std.specs.List.{position_or_len, list_all}
 use Rattle.std.specs.declared.alloc.Global.{Global}
-use Rattle.ak_core.specs.Mem.{Touch, Tables, is_touched, is_writable, is_write, with_page}
+use Rattle.ak_core.specs.Mem.{Access, Tables, is_touched, is_writable, is_write, with_page}
 use Rattle.ak_core.specs.declared.page.Entry.{Entry}
 use Rattle.ak_epcm.specs.Entries.{entry_at, free_entry, is_of_page, has_page, HasNoFrame, HasDistinctPages}
 use Rattle.ak_epcm.proofs.EntryLists.{valid_in_range}
@@ -76,20 +76,20 @@ below : (p n : ℕ) → nat_lt p n ≡ true → p < n
 below p n h = grind (arith, nat_tests)
 
 -- a walk that finds an access finds its page
-pub finds_mapped : (tables : Tables) (t : Touch) → finds tables t ≡ true → IsMapped tables t.page.0
+pub finds_mapped : (tables : Tables) (t : Access) → finds tables t ≡ true → IsMapped tables t.page.0
 finds_mapped tables t h = record {
   in_table = below t.page.0 tables.pages (and_left (nat_lt t.page.0 tables.pages) _ h);
   has = walk_finds-has_page (tables.flags t.page.0) (entry_at tables.entries (tables.frame t.page.0)) t.page.0 t.kind
       (and_right (nat_lt t.page.0 tables.pages) _ h);
 }
 
-first_or_more : (tables : Tables) (t : Touch) (p : ℕ) (b any : Bool) → (t.page.0 == p) ≡ b → finds tables t ≡ true →
+first_or_more : (tables : Tables) (t : Access) (p : ℕ) (b any : Bool) → (t.page.0 == p) ≡ b → finds tables t ≡ true →
     (b || any) ≡ true → (any ≡ true → IsMapped tables p) → IsMapped tables p
 first_or_more tables t p true any is found some more = subst (IsMapped tables) (eqb-true _ _ is) (finds_mapped tables t found)
 first_or_more tables t p false any is found some more = more some
 
 -- a page that was touched is mapped
-pub touched_mapped : (tables : Tables) (touched : List Touch) (p : ℕ) → list_all (finds tables) touched ≡ true → is_touched touched p ≡ true → IsMapped tables p
+pub touched_mapped : (tables : Tables) (touched : List Access) (p : ℕ) → list_all (finds tables) touched ≡ true → is_touched touched p ≡ true → IsMapped tables p
 touched_mapped tables [] p all some = cc
 touched_mapped tables (t ∷ touched) p all some =
     first_or_more tables t p (t.page.0 == p) (is_touched touched p) refl (and_left (finds tables t) (list_all (finds tables) touched) all) some
@@ -100,7 +100,7 @@ writable_by true w any other some more = refl
 writable_by false w any other some more = more some
 
 -- a page that was touched for writing was touched
-pub writable_touched : (touched : List Touch) (p : ℕ) → is_writable touched p ≡ true → is_touched touched p ≡ true
+pub writable_touched : (touched : List Access) (p : ℕ) → is_writable touched p ≡ true → is_touched touched p ≡ true
 writable_touched [] p some = some
 writable_touched (t ∷ touched) p some =
     writable_by (t.page.0 == p) (is_write t.kind) (is_writable touched p) (is_touched touched p) some (writable_touched touched p)

@@ -6,11 +6,11 @@ use Rattle.std.specs.List.{list_all}
 use Rattle.std.proofs.lemmas.Bool.Decides.{nat_tests}
 use Rattle.ak_core.specs.Layout.{Layout}
 use Rattle.ak_core.specs.declared.event.Event.{Event}
-use Rattle.ak_model.specs.ProgramStep.{count_of, due}
-use Rattle.ak_model.specs.Tape.{is_tape, may_follow, may_precede}
-use Rattle.ak_model.specs.Premises.{IsLater}
-use Rattle.ak_model.specs.Ends.{Runs}
-use Rattle.ak_model.specs.Events.{call_at, call_of, step_at, vector_by, TrapsAreForced}
+use Rattle.ak_model.specs.Control.EventTurn.{count_of, due}
+use Rattle.ak_model.specs.Tapes.Tape.{is_tape, may_follow, may_precede}
+use Rattle.ak_model.specs.Laws.Premises.{IsLater}
+use Rattle.ak_model.specs.Tapes.LastMoment.{FlatRuns}
+use Rattle.ak_model.specs.Sound.Events.{call_at, call_of, ending_at, vector_by, TrapsAreForced}
 use Rattle.ak_machine.specs.Controls.{IsGoing}
 use Rattle.ak_machine.specs.Stands.{is_unmissed}
 
@@ -118,7 +118,7 @@ call_at_break n i [] = refl
 call_at_break n i (event ∷ events) = ap (call_of i event) (call_at_break n i events)
 
 -- calls force nothing
-pub going_forced : (layout : Layout) (runs : Runs) (n : ℕ) (events : List Event) → IsGoing n events → TrapsAreForced layout runs events
+pub going_forced : (layout : Layout) (runs : FlatRuns) (n : ℕ) (events : List Event) → IsGoing n events → TrapsAreForced layout runs events
 going_forced layout runs n [] ok = tt
 going_forced layout runs n (Event.Call i zero a ∷ events) ok = absurd ok
 going_forced layout runs n (Event.Call i (suc b) a ∷ events) ok = (tt, going_forced layout runs n events ok.1)
@@ -126,7 +126,7 @@ going_forced layout runs n (Event.Miss i c ∷ events) ok = absurd ok
 going_forced layout runs n (Event.Trap i v ∷ events) ok = absurd ok
 going_forced layout runs n (Event.Break i ∷ events) ok = absurd ok
 
-pub forced_call : (layout : Layout) (runs : Runs) (n b a : ℕ) (events : List Event) → IsGoing n events → TrapsAreForced layout runs (events ++ Event.Call n b a ∷ [])
+pub forced_call : (layout : Layout) (runs : FlatRuns) (n b a : ℕ) (events : List Event) → IsGoing n events → TrapsAreForced layout runs (events ++ Event.Call n b a ∷ [])
 forced_call layout runs n b a [] ok = (tt, tt)
 forced_call layout runs n b a (Event.Call i zero c ∷ events) ok = absurd ok
 forced_call layout runs n b a (Event.Call i (suc d) c ∷ events) ok = (tt, forced_call layout runs n b a events ok.1)
@@ -134,7 +134,7 @@ forced_call layout runs n b a (Event.Miss i c ∷ events) ok = absurd ok
 forced_call layout runs n b a (Event.Trap i v ∷ events) ok = absurd ok
 forced_call layout runs n b a (Event.Break i ∷ events) ok = absurd ok
 
-pub forced_trap : (layout : Layout) (runs : Runs) (n v : ℕ) (events : List Event) → IsGoing n events → option_and_then vector_by (step_at layout runs n) ≡ Some v →
+pub forced_trap : (layout : Layout) (runs : FlatRuns) (n v : ℕ) (events : List Event) → IsGoing n events → option_and_then vector_by (ending_at layout runs n) ≡ Some v →
     TrapsAreForced layout runs (events ++ Event.Trap n v ∷ [])
 forced_trap layout runs n v [] ok forced = (forced, tt)
 forced_trap layout runs n v (Event.Call i zero c ∷ events) ok forced = absurd ok
@@ -143,7 +143,7 @@ forced_trap layout runs n v (Event.Miss i c ∷ events) ok forced = absurd ok
 forced_trap layout runs n v (Event.Trap i w ∷ events) ok forced = absurd ok
 forced_trap layout runs n v (Event.Break i ∷ events) ok forced = absurd ok
 
-pub forced_break : (layout : Layout) (runs : Runs) (n : ℕ) (events : List Event) → IsGoing n events → TrapsAreForced layout runs (events ++ Event.Break n ∷ [])
+pub forced_break : (layout : Layout) (runs : FlatRuns) (n : ℕ) (events : List Event) → IsGoing n events → TrapsAreForced layout runs (events ++ Event.Break n ∷ [])
 forced_break layout runs n [] ok = (tt, tt)
 forced_break layout runs n (Event.Call i zero c ∷ events) ok = absurd ok
 forced_break layout runs n (Event.Call i (suc d) c ∷ events) ok = (tt, forced_break layout runs n events ok.1)

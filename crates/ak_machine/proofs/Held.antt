@@ -8,9 +8,9 @@ use Rattle.ak_core.specs.declared.build.Build.TheVariants.{Resident}
 use Rattle.ak_core.specs.declared.page.Entry.{Entry}
 use Rattle.ak_core.specs.declared.page.Perm.TheVariants.{R, Rw, Rx}
 use Rattle.ak_core.specs.declared.page.PageType.TheVariants.{Reg, Tcs}
-use Rattle.ak_model.specs.Pages.{pages, all_pages, tcs_page, code_page, flags_for}
-use Rattle.ak_model.specs.Holdings.{Held, FreeFrame, SecsFrame, VaFrame, PageFrame, holds}
-use Rattle.ak_model.specs.Build.{held_at_build, entry_at_build, later_frame, program_entry}
+use Rattle.ak_model.specs.Paging.Pages.{pages, all_pages, tcs_page, code_page, flags_for}
+use Rattle.ak_model.specs.Paging.Holdings.{Held, FreeFrame, SecsFrame, VaFrame, PageFrame, is_page_in}
+use Rattle.ak_model.specs.Paging.Build.{held_at_build, entry_at_build, later_frame, program_entry}
 use Rattle.ak_epcm.specs.Entries.{is_addressed, has_page}
 use Rattle.ak_walk.specs.Agrees.{EntryAgrees, type_of_page}
 
@@ -99,7 +99,7 @@ either_way : (p q : ℕ) → (q == p) ≡ (p == q)
 either_way p q = grind (arith, nat_tests)
 
 -- an entry that agrees has the page that its frame holds, and no other
-pub agrees_page : (layout : Layout) (e : Entry) (h : Held) (since : Option ℕ) (p : ℕ) → EntryAgrees layout e h since → has_page e p ≡ holds h p
+pub agrees_page : (layout : Layout) (e : Entry) (h : Held) (since : Option ℕ) (p : ℕ) → EntryAgrees layout e h since → has_page e p ≡ is_page_in h p
 agrees_page layout e FreeFrame since p agrees = ap (λ b. (b && is_addressed e.kind) && (e.page.0 == p)) agrees
 agrees_page layout e SecsFrame since p agrees =
     ap (λ b. (b && is_addressed e.kind) && (e.page.0 == p)) agrees.valid ∙ ap (λ kind. is_addressed kind && (e.page.0 == p)) agrees.kind
@@ -112,7 +112,7 @@ agrees_page layout e (PageFrame q) since p agrees =
     ∙ ap (λ n. n == p) agrees.page
     ∙ either_way p q
 
-held_by : (h : Held) (p : ℕ) → holds h p ≡ true → h ≡ PageFrame p
+held_by : (h : Held) (p : ℕ) → is_page_in h p ≡ true → h ≡ PageFrame p
 held_by FreeFrame p e = cc
 held_by SecsFrame p e = cc
 held_by VaFrame p e = cc
@@ -124,4 +124,4 @@ has_held layout e h since p agrees has = held_by h p (sym (agrees_page layout e 
 
 -- it has it, where it holds it
 pub held_has : (layout : Layout) (e : Entry) (h : Held) (since : Option ℕ) (p : ℕ) → EntryAgrees layout e h since → h ≡ PageFrame p → has_page e p ≡ true
-held_has layout e h since p agrees is = agrees_page layout e h since p agrees ∙ ap (λ k. holds k p) is ∙ eq-eqb p p refl
+held_has layout e h since p agrees is = agrees_page layout e h since p agrees ∙ ap (λ k. is_page_in k p) is ∙ eq-eqb p p refl

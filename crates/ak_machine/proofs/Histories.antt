@@ -6,7 +6,7 @@ use Rattle.ak_core.specs.Journal.{with_more}
 use Rattle.ak_core.specs.declared.event.Event.{Event}
 use Rattle.ak_core.specs.declared.moves.Move.{Move}
 use Rattle.ak_core.specs.declared.moves.Answer.{Answer}
-use Rattle.ak_model.specs.Outputs.{shown_by}
+use Rattle.ak_model.specs.Sound.Outputs.{shown_by}
 use Rattle.ak_machine.specs.State.{State}
 use Rattle.ak_machine.specs.Moves.{IsMove}
 use Rattle.ak_machine.specs.Histories.{StandsForSome}

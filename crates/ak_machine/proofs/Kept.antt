@@ -5,11 +5,11 @@ use Rattle.std.proofs.lemmas.Bool.{cases_lt}
 use Rattle.std.proofs.lemmas.Bool.Decides.{nat_tests}
 use Rattle.std.proofs.lemmas.List.{drop_at, take_all, drop-append-le, take-append-le}
 use Rattle.ak_core.specs.Layout.{Layout}
-use Rattle.ak_core.specs.Mem.{Touch, is_write, is_writable}
+use Rattle.ak_core.specs.Mem.{Access, is_write, is_writable}
 use Rattle.ak_core.specs.declared.registers.Regs.{Regs}
-use Rattle.ak_model.specs.Pages.{pages}
-use Rattle.ak_model.specs.Flat.{Flat, End, line}
-use Rattle.ak_model.proofs.ProgramPages.{AllLow, line_low}
+use Rattle.ak_model.specs.Paging.Pages.{pages}
+use Rattle.ak_model.specs.Flat.FlatRuns.{Flat, End, line}
+use Rattle.ak_model.proofs.Flat.ProgramPages.{AllLow, line_low}
 use Rattle.ak_exec.specs.Turns.{Shows, Completes, KeepsUnwritten}
 
 -- ---- A flat state that pages show
@@ -45,7 +45,7 @@ page-joined bytes (suc n) p whole lt =
 -- ---- A turn of the program
 
 -- where each access is of a page of the program, no other page is written
-unwritable : (layout : Layout) (granted : List Touch) (p : ℕ) → AllLow layout granted → pages layout ≤ p → is_writable granted p ≡ false
+unwritable : (layout : Layout) (granted : List Access) (p : ℕ) → AllLow layout granted → pages layout ≤ p → is_writable granted p ≡ false
 unwritable layout [] p low beyond = refl
 unwritable layout (t ∷ granted) p low beyond =
     let inside = low.0 in
@@ -53,10 +53,10 @@ unwritable layout (t ∷ granted) p low beyond =
     ap (λ b. (b && is_write t.kind) || is_writable granted p) other ∙ unwritable layout granted p low.1 beyond
 
 -- they keep them in a turn that does a whole line
-pub kept_whole : (layout : Layout) (regs after : Regs) (held holds : ℕ → Bool) (old new : ℕ → List ℕ) (granted : List Touch) (end : Flat → End) → ((p : ℕ) → length (old p) ≡ 4096) →
+pub kept_whole : (layout : Layout) (regs after : Regs) (held holds : ℕ → Bool) (old new : ℕ → List ℕ) (granted : List Access) (end : Flat → End) → ((p : ℕ) → length (old p) ≡ 4096) →
     ((flat : Flat) → flat.regs ≡ regs → Shows layout held old flat → Completes layout (line layout flat) end after holds new granted) → KeepsUnwritten granted old new →
     (p : ℕ) → pages layout ≤ p → new p ≡ old p
 kept_whole layout regs after held holds old new granted end whole does keeps p beyond =
     let flat : Flat = record { regs = regs; bytes = joined old (pages layout) } in
     let completes = does flat refl (λ q inside is. sym (page-joined old (pages layout) q whole inside)) in
-    keeps p (ap (λ touches. is_writable touches p) completes.all ∙ unwritable layout (line layout flat).touches p (line_low layout flat) beyond)
+    keeps p (ap (λ accesses. is_writable accesses p) completes.all ∙ unwritable layout (line layout flat).accesses p (line_low layout flat) beyond)

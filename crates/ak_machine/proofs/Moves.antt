@@ -16,19 +16,19 @@ use Rattle.ak_core.specs.declared.moves.Exit.{Exit}
 use Rattle.ak_core.specs.declared.moves.Move.{Move}
 use Rattle.ak_core.specs.declared.moves.Answer.{Answer}
 use Rattle.ak_core.specs.declared.event.Event.{Event}
-use Rattle.ak_model.specs.Pages.{pages, all_pages}
-use Rattle.ak_model.specs.Build.{known_pages, entering_walks}
-use Rattle.ak_model.specs.History.{History, Change, Unchanged, change}
-use Rattle.ak_model.specs.Holdings.{Mapping}
-use Rattle.ak_model.specs.Frames.{held, held_after, blocked_at, blocked_after}
-use Rattle.ak_model.specs.PageTable.{pte, pte_after}
-use Rattle.ak_model.specs.Inside.{inside, since, since_after, another_inside}
-use Rattle.ak_model.specs.Answers.{answer, finds_tcs, finds_ssa}
-use Rattle.ak_model.specs.Entering.{control_after}
-use Rattle.ak_model.specs.Flat.{flat_run}
-use Rattle.ak_model.specs.ProgramTurns.{turns_of_move}
-use Rattle.ak_model.specs.Outputs.{shown_by}
-use Rattle.ak_model.proofs.TurnFacts.{alone-reverse}
+use Rattle.ak_model.specs.Paging.Pages.{pages, all_pages}
+use Rattle.ak_model.specs.Paging.Build.{known_pages, entering_walks}
+use Rattle.ak_model.specs.Paging.Histories.{History, Change, Unchanged, change}
+use Rattle.ak_model.specs.Paging.Holdings.{Mapping}
+use Rattle.ak_model.specs.Paging.Frames.{held, held_after, blocked_at, blocked_after}
+use Rattle.ak_model.specs.Paging.PageTable.{pte, pte_after}
+use Rattle.ak_model.specs.Paging.Inside.{inside, since, since_after, another_inside}
+use Rattle.ak_model.specs.Control.Answers.{answer, finds_tcs, finds_ssa}
+use Rattle.ak_model.specs.Control.Entering.{control_after}
+use Rattle.ak_model.specs.Flat.FlatRuns.{flat_run}
+use Rattle.ak_model.specs.Tapes.ProgramTurns.{turns_of_move}
+use Rattle.ak_model.specs.Sound.Outputs.{shown_by}
+use Rattle.ak_model.proofs.Tapes.EachTurn.{alone-reverse}
 use Rattle.ak_epcm.specs.Entries.{entry_at}
 use Rattle.ak_pte.specs.Table.{unmapped}
 use Rattle.ak_pte.specs.declared.table.Pte.{Pte}

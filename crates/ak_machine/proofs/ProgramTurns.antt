@@ -3,21 +3,21 @@ use Rattle.std.proofs.Common.{◌≡◌, ℕ, zero, suc, ◌+◌, List, [], ◌�
 use Rattle.std.specs.Prelude.{Option, Some, None, Bool, option_and_then, ◌==◌, if◌then◌else◌}
 use Rattle.std.specs.List.{list_all}
 use Rattle.ak_core.specs.Layout.{Layout}
-use Rattle.ak_core.specs.Mem.{Touch, Tables}
+use Rattle.ak_core.specs.Mem.{Access, Tables}
 use Rattle.ak_core.specs.declared.page.Fault.{Fault}
 use Rattle.ak_core.specs.declared.moves.Exit.{Exit}
 use Rattle.ak_core.specs.declared.event.Event.{Event}
 use Rattle.ak_core.specs.declared.registers.Regs.{Regs}
-use Rattle.ak_model.specs.History.{History}
-use Rattle.ak_model.specs.Inside.{inside}
-use Rattle.ak_model.specs.Walk.{touch_walkable}
-use Rattle.ak_model.specs.Flat.{Flat, End, Run, line, step, flat_run, is_forbidden}
-use Rattle.ak_model.specs.ProgramStep.{event_turn}
-use Rattle.ak_model.specs.Events.{completed_by, vector_by, step_at}
-use Rattle.ak_model.specs.ProgramTurns.{ProgramTurn}
-use Rattle.ak_model.specs.Reached.{MayComplete, touches_at, touches_next}
-use Rattle.ak_model.specs.MayFault.{MayFault}
-use Rattle.ak_model.proofs.Walks.{completes-walked, traps-walked, faults-walked}
+use Rattle.ak_model.specs.Paging.Histories.{History}
+use Rattle.ak_model.specs.Paging.Inside.{inside}
+use Rattle.ak_model.specs.Paging.Walk.{access_walkable}
+use Rattle.ak_model.specs.Flat.FlatRuns.{Flat, End, FlatRun, line, ending, flat_run, is_forbidden}
+use Rattle.ak_model.specs.Control.EventTurn.{event_turn}
+use Rattle.ak_model.specs.Sound.Events.{completed_by, vector_by, ending_at}
+use Rattle.ak_model.specs.Tapes.ProgramTurns.{ProgramTurn}
+use Rattle.ak_model.specs.Misses.Reached.{MayComplete, accesses_at, accesses_next}
+use Rattle.ak_model.specs.Misses.FaultingAccess.{MayFault}
+use Rattle.ak_model.proofs.Misses.WalksReach.{completes-walked, traps-walked, faults-walked}
 use Rattle.ak_exec.specs.Turns.{Shows, Completes, Raises, Refuses}
 use Rattle.ak_machine.specs.declared.activity.Stage.{Stage}
 use Rattle.ak_machine.specs.declared.activity.Activity.{Activity}
@@ -43,9 +43,9 @@ abbrev pub next : State → Activity → Regs → (ℕ → List ℕ) → State
 next s activity regs bytes = record { activity = activity; regs = regs; count = s.count + 1; tables = s.tables; bytes = bytes }
 
 -- the instruction that is reached ends so
-reached_end : {A : Type 0} (layout : Layout) (image returned : List ℕ) (i : ℕ) (run : Run) (f : End → Option A) (end : End) (x : A) →
-    flat_run layout image returned i ≡ Some run → step layout run.flat ≡ end → f end ≡ Some x →
-    option_and_then f (step_at layout (flat_run layout image returned) i) ≡ Some x
+reached_end : {A : Type 0} (layout : Layout) (image returned : List ℕ) (i : ℕ) (run : FlatRun) (f : End → Option A) (end : End) (x : A) →
+    flat_run layout image returned i ≡ Some run → ending layout run.flat ≡ end → f end ≡ Some x →
+    option_and_then f (ending_at layout (flat_run layout image returned) i) ≡ Some x
 reached_end layout image returned i run f end x reached ends is =
     ap (option_and_then f) (step_is layout (flat_run layout image returned) i run reached) ∙ ap f ends ∙ is
 
@@ -53,39 +53,39 @@ reached_end layout image returned i run f end x reached ends is =
 abbrev turn_of : History → ℕ → Option Event → ProgramTurn
 turn_of past count event = record { lp = 0; past = past; count = count; event = event }
 
--- the accesses of the turn's instruction, which all were granted
-accesses : (layout : Layout) (image : List ℕ) (past : History) (returned : List ℕ) (count : ℕ) (flat : Flat) (event : Option Event) →
+-- the accesses_reached of the turn's instruction, which all were granted
+accesses_reached : (layout : Layout) (image : List ℕ) (past : History) (returned : List ℕ) (count : ℕ) (flat : Flat) (event : Option Event) →
     flat_run layout image returned count ≡ Some (record { flat = flat; answers = [] }) →
-    touches_at layout (flat_run layout image returned) (turn_of past count event) ≡ (line layout flat).touches
-accesses layout image past returned count flat event reached = ap (touches_next layout) reached
+    accesses_at layout (flat_run layout image returned) (turn_of past count event) ≡ (line layout flat).accesses
+accesses_reached layout image past returned count flat event reached = ap (accesses_next layout) reached
 
 -- the turn that completes or traps may do so
 may_complete : (layout : Layout) (image : List ℕ) (past : History) (returned : List ℕ) (count : ℕ) (flat : Flat) (event : Option Event) →
     flat_run layout image returned count ≡ Some (record { flat = flat; answers = [] }) → inside past 0 ≡ true →
-    list_all (touch_walkable layout past) (line layout flat).touches ≡ true → MayComplete layout (flat_run layout image returned) (turn_of past count event)
+    list_all (access_walkable layout past) (line layout flat).accesses ≡ true → MayComplete layout (flat_run layout image returned) (turn_of past count event)
 may_complete layout image past returned count flat event reached within walked =
-    completes-walked layout (flat_run layout image returned) (turn_of past count event) within (line layout flat).touches
-    (accesses layout image past returned count flat event reached) walked
+    completes-walked layout (flat_run layout image returned) (turn_of past count event) within (line layout flat).accesses
+    (accesses_reached layout image past returned count flat event reached) walked
 
 -- ---- What a turn is given
 
 module _ (layout : Layout) (image : List ℕ) (past : History) (s : State) (returned shown : List ℕ) (events : List Event) where
-  -- the accesses of the line, which all were granted, are walkable
-  walked_line : (st : Stands layout image past (at s Activity.Running) returned shown events) (granted : List Touch) →
-      granted ≡ (line layout st.bytes.flat).touches → list_all (finds s.tables) granted ≡ true →
-      list_all (touch_walkable layout past) (line layout st.bytes.flat).touches ≡ true
+  -- the accesses_reached of the line, which all were granted, are walkable
+  walked_line : (st : Stands layout image past (at s Activity.Running) returned shown events) (granted : List Access) →
+      granted ≡ (line layout st.bytes.flat).accesses → list_all (finds s.tables) granted ≡ true →
+      list_all (access_walkable layout past) (line layout st.bytes.flat).accesses ≡ true
   walked_line st granted all found =
-      subst (λ (touches : List Touch). list_all (touch_walkable layout past) touches ≡ true) all
+      subst (λ (accesses : List Access). list_all (access_walkable layout past) accesses ≡ true) all
       (granted_walkable layout past Activity.Running s.tables granted st.tables found)
 
   -- ---- An instruction without a call
 
-  done_at : (regs : Regs) (bytes : ℕ → List ℕ) (granted : List Touch) → (st : Stands layout image past (at s Activity.Running) returned shown events) →
+  done_at : (regs : Regs) (bytes : ℕ → List ℕ) (granted : List Access) → (st : Stands layout image past (at s Activity.Running) returned shown events) →
       Completes layout (line layout st.bytes.flat) End.Next regs (is_held s.tables.entries) bytes granted → list_all (finds s.tables) granted ≡ true →
       DoesTurn layout image past (at s Activity.Running) (next s Activity.Running regs bytes) None None returned shown events
   done_at regs bytes granted st line_is found =
       let walked = walked_line st granted line_is.all found in
-      let ends : step layout st.bytes.flat ≡ End.Next line_is.after = step_is_end layout past st.bytes.flat walked ∙ line_is.ends in
+      let ends : ending layout st.bytes.flat ≡ End.Next line_is.after = step_is_end layout past st.bytes.flat walked ∙ line_is.ends in
       record {
         stands = λ turns. record {
           tape = record {
@@ -126,12 +126,12 @@ module _ (layout : Layout) (image : List ℕ) (past : History) (s : State) (retu
   goes_on zero a n events ok = tt
   goes_on (suc b) a n events ok = going_call n events b a ok
 
-  called_at : (b a : ℕ) (regs : Regs) (bytes : ℕ → List ℕ) (granted : List Touch) → (st : Stands layout image past (at s Activity.Running) returned shown events) →
+  called_at : (b a : ℕ) (regs : Regs) (bytes : ℕ → List ℕ) (granted : List Access) → (st : Stands layout image past (at s Activity.Running) returned shown events) →
       Completes layout (line layout st.bytes.flat) (End.Call b a) regs (is_held s.tables.entries) bytes granted → list_all (finds s.tables) granted ≡ true →
       DoesTurn layout image past (at s Activity.Running) (next s (Activity.Leaving b a) regs bytes) None (Some (Event.Call s.count b a)) returned shown events
   called_at b a regs bytes granted st line_is found =
       let walked = walked_line st granted line_is.all found in
-      let ends : step layout st.bytes.flat ≡ End.Call b a line_is.after = step_is_end layout past st.bytes.flat walked ∙ line_is.ends in
+      let ends : ending layout st.bytes.flat ≡ End.Call b a line_is.after = step_is_end layout past st.bytes.flat walked ∙ line_is.ends in
       record {
         stands = λ turns. record {
           tape = record {
@@ -169,12 +169,12 @@ module _ (layout : Layout) (image : List ℕ) (past : History) (s : State) (retu
 
   -- ---- A vector
 
-  raised_at : (v : ℕ) (granted : List Touch) → (st : Stands layout image past (at s Activity.Running) returned shown events) →
+  raised_at : (v : ℕ) (granted : List Access) → (st : Stands layout image past (at s Activity.Running) returned shown events) →
       Raises (line layout st.bytes.flat) v granted → list_all (finds s.tables) granted ≡ true → (v == 14) ≡ false →
       DoesTurn layout image past (at s Activity.Running) (at s (Activity.Outside (Stage.Raised v))) (Some (Exit.Vector v)) (Some (Event.Trap s.count v)) returned shown events
   raised_at v granted st line_is found other =
       let walked = walked_line st granted line_is.all found in
-      let ends : step layout st.bytes.flat ≡ End.Vector v = step_is_end layout past st.bytes.flat walked ∙ line_is.ends in
+      let ends : ending layout st.bytes.flat ≡ End.Vector v = step_is_end layout past st.bytes.flat walked ∙ line_is.ends in
       record {
         stands = λ turns. record {
           tape = record {
@@ -213,7 +213,7 @@ module _ (layout : Layout) (image : List ℕ) (past : History) (s : State) (retu
 
   -- ---- A fault
 
-  broken_at : (access : Fault) (granted : List Touch) → IsServedLayout layout → is_forbidden layout access ≡ false → (st : Stands layout image past (at s Activity.Running) returned shown events) →
+  broken_at : (access : Fault) (granted : List Access) → IsServedLayout layout → is_forbidden layout access ≡ false → (st : Stands layout image past (at s Activity.Running) returned shown events) →
       Refuses (line layout st.bytes.flat) access granted → list_all (finds s.tables) granted ≡ true → finds s.tables access ≡ false →
       DoesTurn layout image past (at s Activity.Running) (at s (Activity.Outside (Stage.Broken access))) (Some (Exit.Pf layout.base 4)) (Some (Event.Break s.count)) returned shown events
   broken_at access granted is permitted st line_is found lost =
@@ -222,7 +222,7 @@ module _ (layout : Layout) (image : List ℕ) (past : History) (s : State) (retu
       let unmapped = sym (finds-walkable layout past Activity.Running s.tables access st.tables) ∙ lost in
       let faults : MayFault layout (flat_run layout image returned) turn access =
       faults-walked layout (flat_run layout image returned) turn st.tables.within granted line_is.rest access
-      (accesses layout image past returned s.count st.bytes.flat (Some (Event.Break s.count)) st.bytes.placed ∙ line_is.next)
+      (accesses_reached layout image past returned s.count st.bytes.flat (Some (Event.Break s.count)) st.bytes.placed ∙ line_is.next)
       walked permitted unmapped in
       record {
         stands = λ turns. record {
@@ -259,13 +259,13 @@ module _ (layout : Layout) (image : List ℕ) (past : History) (s : State) (retu
 
   -- ---- A denied access
 
-  denied_at : (access : Fault) (granted : List Touch) → (st : Stands layout image past (at s Activity.Running) returned shown events) →
+  denied_at : (access : Fault) (granted : List Access) → (st : Stands layout image past (at s Activity.Running) returned shown events) →
       Refuses (line layout st.bytes.flat) access granted → list_all (finds s.tables) granted ≡ true → is_forbidden layout access ≡ true →
       DoesTurn layout image past (at s Activity.Running) (at s (Activity.Outside Stage.Denied)) (Some (Exit.Pf layout.base 4)) (Some (Event.Trap s.count 14)) returned shown events
   denied_at access granted st line_is found forbidden =
       let turn = turn_of past s.count (Some (Event.Trap s.count 14)) in
       let walked = granted_walkable layout past Activity.Running s.tables granted st.tables found in
-      let ends : step layout st.bytes.flat ≡ End.Vector 14 = step_denied layout st.bytes.flat granted line_is.rest access line_is.next forbidden in
+      let ends : ending layout st.bytes.flat ≡ End.Vector 14 = step_denied layout st.bytes.flat granted line_is.rest access line_is.next forbidden in
       record {
         stands = λ turns. record {
           tape = record {
@@ -294,7 +294,7 @@ module _ (layout : Layout) (image : List ℕ) (past : History) (s : State) (retu
           record {
             comes = (_, st.bytes.placed);
             reached = traps-walked layout (flat_run layout image returned) turn st.tables.within granted line_is.rest access
-                (accesses layout image past returned s.count st.bytes.flat (Some (Event.Trap s.count 14)) st.bytes.placed ∙ line_is.next)
+                (accesses_reached layout image past returned s.count st.bytes.flat (Some (Event.Trap s.count 14)) st.bytes.placed ∙ line_is.next)
                 walked forbidden;
             faults = tt;
             unmissed = refl;
@@ -304,7 +304,7 @@ module _ (layout : Layout) (image : List ℕ) (past : History) (s : State) (retu
       }
 
   -- an access that faults, by whether it is forbidden
-  faulted_at : (b : Bool) (access : Fault) (granted : List Touch) → IsServedLayout layout → is_forbidden layout access ≡ b →
+  faulted_at : (b : Bool) (access : Fault) (granted : List Access) → IsServedLayout layout → is_forbidden layout access ≡ b →
       (st : Stands layout image past (at s Activity.Running) returned shown events) →
       Refuses (line layout st.bytes.flat) access granted → list_all (finds s.tables) granted ≡ true → finds s.tables access ≡ false →
       DoesTurn layout image past (at s Activity.Running) (at s (Activity.Outside (if b then Stage.Denied else Stage.Broken access))) (Some (Exit.Pf layout.base 4))
@@ -319,7 +319,7 @@ module _ (layout : Layout) (image : List ℕ) (past : History) (s : State) (retu
   Does P = (flat : Flat) → flat.regs ≡ s.regs → Shows layout (is_held s.tables.entries) s.bytes flat → P flat
 
   -- an instruction completes with no call
-  pub done : (regs : Regs) (tables : Tables) (bytes : ℕ → List ℕ) (granted : List Touch) → s.activity ≡ Activity.Running → tables ≡ s.tables →
+  pub done : (regs : Regs) (tables : Tables) (bytes : ℕ → List ℕ) (granted : List Access) → s.activity ≡ Activity.Running → tables ≡ s.tables →
       Does (λ flat. Completes layout (line layout flat) End.Next regs (is_held tables.entries) bytes granted) → list_all (finds tables) granted ≡ true →
       Stands layout image past s returned shown events →
       DoesTurn layout image past s (record { activity = s.activity; regs = regs; count = s.count + 1; tables = tables; bytes = bytes }) None None returned shown events
@@ -333,7 +333,7 @@ module _ (layout : Layout) (image : List ℕ) (past : History) (s : State) (retu
       (subst P (sym same) (λ d f st. done_at regs bytes granted st (d st.bytes.flat st.bytes.registers st.bytes.shows) f) does found)
 
   -- an instruction completes with a call
-  pub called : (b a : ℕ) (regs : Regs) (tables : Tables) (bytes : ℕ → List ℕ) (granted : List Touch) → s.activity ≡ Activity.Running → tables ≡ s.tables →
+  pub called : (b a : ℕ) (regs : Regs) (tables : Tables) (bytes : ℕ → List ℕ) (granted : List Access) → s.activity ≡ Activity.Running → tables ≡ s.tables →
       Does (λ flat. Completes layout (line layout flat) (End.Call b a) regs (is_held tables.entries) bytes granted) → list_all (finds tables) granted ≡ true →
       Stands layout image past s returned shown events →
       DoesTurn layout image past s (record { activity = Activity.Leaving b a; regs = regs; count = s.count + 1; tables = tables; bytes = bytes }) None (Some (Event.Call s.count b a)) returned shown events
@@ -355,7 +355,7 @@ module _ (layout : Layout) (image : List ℕ) (past : History) (s : State) (retu
       ∙ ap (λ b. record { activity = Activity.Outside stage; regs = s.regs; count = s.count; tables = s.tables; bytes = b }) g
 
   -- an instruction gives a vector, which is no denied access
-  pub raised : (v : ℕ) (regs : Regs) (tables : Tables) (bytes : ℕ → List ℕ) (granted : List Touch) → s.activity ≡ Activity.Running →
+  pub raised : (v : ℕ) (regs : Regs) (tables : Tables) (bytes : ℕ → List ℕ) (granted : List Access) → s.activity ≡ Activity.Running →
       regs ≡ s.regs → tables ≡ s.tables → bytes ≡ s.bytes → (v == 14) ≡ false →
       Does (λ flat. Raises (line layout flat) v granted) → list_all (finds tables) granted ≡ true → Stands layout image past s returned shown events →
       DoesTurn layout image past s (record { activity = Activity.Outside (Stage.Raised v); regs = regs; count = s.count; tables = tables; bytes = bytes })
@@ -370,7 +370,7 @@ module _ (layout : Layout) (image : List ℕ) (past : History) (s : State) (retu
       (subst Q (sym running) (λ st. raised_at v granted st (does st.bytes.flat st.bytes.registers st.bytes.shows) here other))
 
   -- an access of an instruction was refused
-  pub faulted : (access : Fault) (regs : Regs) (tables : Tables) (bytes : ℕ → List ℕ) (granted : List Touch) → IsServedLayout layout → s.activity ≡ Activity.Running →
+  pub faulted : (access : Fault) (regs : Regs) (tables : Tables) (bytes : ℕ → List ℕ) (granted : List Access) → IsServedLayout layout → s.activity ≡ Activity.Running →
       regs ≡ s.regs → tables ≡ s.tables → bytes ≡ s.bytes →
       Does (λ flat. Refuses (line layout flat) access granted) → list_all (finds tables) granted ≡ true → finds tables access ≡ false → Stands layout image past s returned shown events →
       DoesTurn layout image past s (record { activity = Activity.Outside (fault_stage layout access); regs = regs; count = s.count; tables = tables; bytes = bytes })

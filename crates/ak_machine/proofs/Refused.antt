@@ -5,12 +5,12 @@ use Rattle.std.proofs.lemmas.Bool.{eqb-false}
 use Rattle.std.specs.List.{list_any, range_with_len}
 use Rattle.std.proofs.lemmas.Bool.Decides.{nat_tests}
 use Rattle.ak_core.specs.Layout.{Layout}
-use Rattle.ak_core.specs.Mem.{Touch}
-use Rattle.ak_model.specs.Pages.{cluster_at}
-use Rattle.ak_model.specs.Queue.{is_in}
-use Rattle.ak_model.specs.Build.{queue_at_build}
-use Rattle.ak_model.specs.Flat.{Flat, End, line, step, is_forbidden}
-use Rattle.ak_model.proofs.EventsTaken.{cluster_below}
+use Rattle.ak_core.specs.Mem.{Access}
+use Rattle.ak_model.specs.Paging.Pages.{cluster_at}
+use Rattle.ak_model.specs.Clusters.Queue.{is_in}
+use Rattle.ak_model.specs.Paging.Build.{queue_at_build}
+use Rattle.ak_model.specs.Flat.FlatRuns.{Flat, End, line, ending, is_forbidden}
+use Rattle.ak_model.proofs.Tapes.EventsTaken.{cluster_below}
 use Rattle.ak_exec.specs.Turns.{is_vector}
 use Rattle.ak_machine.specs.Served.{IsServedLayout}
 
@@ -36,12 +36,12 @@ or_true : (b c : Bool) → c ≡ true → (b || c) ≡ true
 or_true true c e = refl
 or_true false c e = e
 
-some_forbidden : (layout : Layout) (granted rest : List Touch) (t : Touch) → is_forbidden layout t ≡ true → list_any (is_forbidden layout) (granted ++ t ∷ rest) ≡ true
+some_forbidden : (layout : Layout) (granted rest : List Access) (t : Access) → is_forbidden layout t ≡ true → list_any (is_forbidden layout) (granted ++ t ∷ rest) ≡ true
 some_forbidden layout [] rest t h = ap (λ b. b || list_any (is_forbidden layout) rest) h
 some_forbidden layout (u ∷ granted) rest t h = or_true (is_forbidden layout u) _ (some_forbidden layout granted rest t h)
 
 -- the instruction gives vector 14
-pub step_denied : (layout : Layout) (flat : Flat) (granted rest : List Touch) (t : Touch) → (line layout flat).touches ≡ granted ++ t ∷ rest → is_forbidden layout t ≡ true → step layout flat ≡ End.Vector 14
+pub step_denied : (layout : Layout) (flat : Flat) (granted rest : List Access) (t : Access) → (line layout flat).accesses ≡ granted ++ t ∷ rest → is_forbidden layout t ≡ true → ending layout flat ≡ End.Vector 14
 step_denied layout flat granted rest t e h =
     ap (λ b. if b then End.Vector 14 else (line layout flat).end) (ap (list_any (is_forbidden layout)) e ∙ some_forbidden layout granted rest t h)
 

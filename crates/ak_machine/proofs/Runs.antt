@@ -5,13 +5,13 @@ use Rattle.ak_core.specs.Layout.{Layout}
 use Rattle.ak_core.specs.Journal.{with_more}
 use Rattle.ak_core.specs.declared.moves.Exit.{Exit}
 use Rattle.ak_core.specs.declared.event.Event.{Event}
-use Rattle.ak_model.specs.History.{History, Pair}
-use Rattle.ak_model.specs.Control.{Control}
-use Rattle.ak_model.specs.Flat.{flat_run}
-use Rattle.ak_model.specs.Turns.{turn, run, go_on}
-use Rattle.ak_model.specs.ProgramTurns.{ProgramTurn, turn_in, turns_of_run}
-use Rattle.ak_model.proofs.TurnRuns.{made-goes, turns-leaves, made-all}
-use Rattle.ak_model.proofs.TurnFacts.{alone-append}
+use Rattle.ak_model.specs.Paging.Histories.{History, Pair}
+use Rattle.ak_model.specs.Control.ControlState.{Control}
+use Rattle.ak_model.specs.Flat.FlatRuns.{flat_run}
+use Rattle.ak_model.specs.Control.Runs.{turn, run, go_on}
+use Rattle.ak_model.specs.Tapes.ProgramTurns.{ProgramTurn, turn_in, turns_of_run}
+use Rattle.ak_model.proofs.Tapes.TurnByTurn.{made-goes, turns-leaves, made-all}
+use Rattle.ak_model.proofs.Tapes.EachTurn.{alone-append}
 use Rattle.ak_machine.specs.declared.activity.Stage.{Stage}
 use Rattle.ak_machine.specs.declared.activity.Activity.{Activity}
 use Rattle.ak_machine.specs.declared.notes.ProgramNote.{ProgramNote}

@@ -8,13 +8,13 @@ use Rattle.ak_core.specs.declared.page.Fault.{Fault}
 use Rattle.ak_core.specs.declared.moves.Exit.{Exit}
 use Rattle.ak_core.specs.declared.event.Event.{Event}
 use Rattle.ak_core.specs.declared.registers.Regs.{Regs}
-use Rattle.ak_model.specs.Build.{steps_walk}
-use Rattle.ak_model.specs.History.{History}
-use Rattle.ak_model.specs.Control.{Context, Control}
-use Rattle.ak_model.specs.Instructions.{with_reg, rax}
-use Rattle.ak_model.specs.Flat.{Flat, flat_run, one_more, outputs, zeroed}
-use Rattle.ak_model.specs.RuntimeStep.{touches, first_fault, effect, unless_fault, runtime_turn}
-use Rattle.ak_model.proofs.Answered.{flat_run-longer}
+use Rattle.ak_model.specs.Paging.Build.{steps_walk}
+use Rattle.ak_model.specs.Paging.Histories.{History}
+use Rattle.ak_model.specs.Control.ControlState.{Context, Control}
+use Rattle.ak_model.specs.Flat.Instructions.{with_reg, rax}
+use Rattle.ak_model.specs.Flat.FlatRuns.{Flat, flat_run, one_more, outputs, zeroed}
+use Rattle.ak_model.specs.Control.RuntimeTurn.{accesses, first_fault, effect, unless_fault, runtime_turn}
+use Rattle.ak_model.proofs.Flat.MoreCallAnswers.{flat_run-longer}
 use Rattle.ak_machine.specs.declared.activity.Stage.{Stage}
 use Rattle.ak_machine.specs.declared.activity.Activity.{Activity}
 use Rattle.ak_machine.specs.State.{State}
@@ -31,7 +31,7 @@ use Rattle.ak_machine.proofs.ProgramTurns.{at}
 runtime_is : (layout : Layout) (past : History) (control : Control) (context : Context) → layout.build ≡ Build.Resident →
     runtime_turn layout past control context ≡ effect layout control context
 runtime_is layout past control context resident =
-    ap (λ build. unless_fault layout control context (if steps_walk build then first_fault layout past (touches layout control context) else None)) resident
+    ap (λ build. unless_fault layout control context (if steps_walk build then first_fault layout past (accesses layout control context) else None)) resident
 
 -- the tables after an exit
 pub tables_left : (layout : Layout) (past : History) (activity : Activity) (tables : Tables) (turns : ℕ) (exit : Exit) (stage : Stage) → is_still exit ≡ false →
@@ -116,7 +116,7 @@ module _ (layout : Layout) (image : List ℕ) (past : History) (s : State) (retu
           };
           reached = tt;
         };
-        traced = λ later ok. runtime_is layout past (control_of layout (at s (Activity.Entering Stage.New v)) returned later) (Context.Entry 0 v) resident;
+        traced = λ later ok. runtime_is layout past (control_of layout (at s (Activity.Entering Stage.New v)) returned later) (Context.Enter 0 v) resident;
         due = λ later ok. ok;
         made = λ later ok. refl;
         sound = tt;
@@ -160,7 +160,7 @@ module _ (layout : Layout) (image : List ℕ) (past : History) (s : State) (retu
           };
           reached = tt;
         };
-        traced = λ later ok. runtime_is layout past (control_of layout (at s (Activity.Entering Stage.Calling v)) returned later) (Context.Entry 0 v) resident;
+        traced = λ later ok. runtime_is layout past (control_of layout (at s (Activity.Entering Stage.Calling v)) returned later) (Context.Enter 0 v) resident;
         due = λ later ok. ok;
         made = λ later ok. refl;
         sound = tt;
@@ -179,7 +179,7 @@ module _ (layout : Layout) (image : List ℕ) (past : History) (s : State) (retu
           bytes = record { flat = st.bytes.flat; registers = st.bytes.registers; shows = st.bytes.shows; placed = st.bytes.placed };
           reached = tt;
         };
-        traced = λ later ok. runtime_is layout past (control_of layout (at s (Activity.Entering (Stage.Raised x) v)) returned later) (Context.Entry 1 v) resident;
+        traced = λ later ok. runtime_is layout past (control_of layout (at s (Activity.Entering (Stage.Raised x) v)) returned later) (Context.Enter 1 v) resident;
         due = λ later ok. ok;
         made = λ later ok. refl;
         sound = tt;
@@ -197,7 +197,7 @@ module _ (layout : Layout) (image : List ℕ) (past : History) (s : State) (retu
           bytes = record { flat = st.bytes.flat; registers = st.bytes.registers; shows = st.bytes.shows; placed = st.bytes.placed };
           reached = tt;
         };
-        traced = λ later ok. runtime_is layout past (control_of layout (at s (Activity.Entering (Stage.Trapped x) v)) returned later) (Context.Entry 1 v) resident;
+        traced = λ later ok. runtime_is layout past (control_of layout (at s (Activity.Entering (Stage.Trapped x) v)) returned later) (Context.Enter 1 v) resident;
         due = λ later ok. ok;
         made = λ later ok. refl;
         sound = tt;
@@ -215,7 +215,7 @@ module _ (layout : Layout) (image : List ℕ) (past : History) (s : State) (retu
           bytes = record { flat = st.bytes.flat; registers = st.bytes.registers; shows = st.bytes.shows; placed = st.bytes.placed };
           reached = tt;
         };
-        traced = λ later ok. runtime_is layout past (control_of layout (at s (Activity.Entering (Stage.Ended status) v)) returned later) (Context.Entry 0 v) resident;
+        traced = λ later ok. runtime_is layout past (control_of layout (at s (Activity.Entering (Stage.Ended status) v)) returned later) (Context.Enter 0 v) resident;
         due = λ later ok. ok;
         made = λ later ok. refl;
         sound = tt;
@@ -234,7 +234,7 @@ module _ (layout : Layout) (image : List ℕ) (past : History) (s : State) (retu
           bytes = record { flat = st.bytes.flat; registers = st.bytes.registers; shows = st.bytes.shows; placed = st.bytes.placed };
           reached = tt;
         };
-        traced = λ later ok. runtime_is layout past (control_of layout (at s (Activity.Entering (Stage.Broken access) v)) returned later) (Context.Entry 1 v) resident;
+        traced = λ later ok. runtime_is layout past (control_of layout (at s (Activity.Entering (Stage.Broken access) v)) returned later) (Context.Enter 1 v) resident;
         due = λ later ok. ok;
         made = λ later ok. refl;
         sound = tt;
@@ -253,7 +253,7 @@ module _ (layout : Layout) (image : List ℕ) (past : History) (s : State) (retu
           bytes = record { flat = st.bytes.flat; registers = st.bytes.registers; shows = st.bytes.shows; placed = st.bytes.placed };
           reached = tt;
         };
-        traced = λ later ok. runtime_is layout past (control_of layout (at s (Activity.Entering Stage.Denied v)) returned later) (Context.Entry 1 v) resident;
+        traced = λ later ok. runtime_is layout past (control_of layout (at s (Activity.Entering Stage.Denied v)) returned later) (Context.Enter 1 v) resident;
         due = λ later ok. ok;
         made = λ later ok. refl;
         sound = tt;
@@ -271,7 +271,7 @@ module _ (layout : Layout) (image : List ℕ) (past : History) (s : State) (retu
           bytes = record { flat = st.bytes.flat; registers = st.bytes.registers; shows = st.bytes.shows; placed = st.bytes.placed };
           reached = tt;
         };
-        traced = λ later ok. runtime_is layout past (control_of layout (at s (Activity.Entering Stage.Dead v)) returned later) (Context.Entry 1 v) resident;
+        traced = λ later ok. runtime_is layout past (control_of layout (at s (Activity.Entering Stage.Dead v)) returned later) (Context.Enter 1 v) resident;
         due = λ later ok. ok;
         made = λ later ok. refl;
         sound = tt;

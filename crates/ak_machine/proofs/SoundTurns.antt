@@ -5,14 +5,14 @@ use Rattle.ak_core.specs.Layout.{Layout}
 use Rattle.ak_core.specs.Journal.{with_more}
 use Rattle.ak_core.specs.declared.event.Event.{Event}
 use Rattle.ak_core.specs.declared.event.Event.TheVariants.{Call, Miss, Trap, Break}
-use Rattle.ak_model.specs.Build.{queue_at_build}
-use Rattle.ak_model.specs.Flat.{flat_run}
-use Rattle.ak_model.specs.ProgramTurns.{ProgramTurn}
-use Rattle.ak_model.specs.Reached.{ComesTo}
-use Rattle.ak_model.specs.MayFault.{MayFault}
-use Rattle.ak_model.specs.Forced.{ReachedBy, FaultsIn}
-use Rattle.ak_model.proofs.Longer.{comes-longer, completes-longer, faults-longer}
-use Rattle.ak_model.proofs.TurnFacts.{each-from, broken-from, faults-from}
+use Rattle.ak_model.specs.Paging.Build.{queue_at_build}
+use Rattle.ak_model.specs.Flat.FlatRuns.{flat_run}
+use Rattle.ak_model.specs.Tapes.ProgramTurns.{ProgramTurn}
+use Rattle.ak_model.specs.Misses.Reached.{ComesTo}
+use Rattle.ak_model.specs.Misses.FaultingAccess.{MayFault}
+use Rattle.ak_model.specs.Sound.Forced.{ReachedBy, FaultsIn}
+use Rattle.ak_model.proofs.Tapes.MoreValuesReturned.{comes-longer, completes-longer, faults-longer}
+use Rattle.ak_model.proofs.Tapes.EachTurn.{each-from, broken-from, faults-from}
 use Rattle.ak_machine.specs.SoundTurns.{IsSoundTurn, FaultsBy, AreSound}
 
 module _ (layout : Layout) (image returned more : List ℕ) where

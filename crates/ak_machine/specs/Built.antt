@@ -2,10 +2,10 @@
 use Rattle.std.specs.Prelude.{◌≡◌, ℕ, ◌<◌, true, List, [], Option, Some, None}
 use Rattle.ak_core.specs.Layout.{Layout}
 use Rattle.ak_core.specs.declared.event.Event.{Event}
-use Rattle.ak_model.specs.Pages.{all_pages}
-use Rattle.ak_model.specs.Holdings.{Held, PageFrame, Mapping}
-use Rattle.ak_model.specs.Build.{held_at_build, entry_at_build}
-use Rattle.ak_model.specs.Control.{start}
+use Rattle.ak_model.specs.Paging.Pages.{all_pages}
+use Rattle.ak_model.specs.Paging.Holdings.{Held, PageFrame, Mapping}
+use Rattle.ak_model.specs.Paging.Build.{held_at_build, entry_at_build}
+use Rattle.ak_model.specs.Control.ControlState.{control_at_build}
 use Rattle.ak_pte.specs.declared.table.Pte.{Pte}
 use Rattle.ak_machine.specs.Memory.{Frames, blank_page, frame_bytes, is_held, pte_at}
 use Rattle.ak_machine.specs.State.{State}
@@ -45,7 +45,7 @@ FillsEach layout content frames n =
 -- the state stands for the image before any move, and its control state is that of the build
 pub record IsBuilt (layout : Layout) (image : List ℕ) (state : State) : Type 0 where
   pub stands : Stands layout image [] state [] [] []
-  pub starts : (later : List Event) → start layout later ≡ control_of layout state [] later
+  pub starts : (later : List Event) → control_at_build layout later ≡ control_of layout state [] later
   pub count : state.count ≡ 0
 
 -- each page of the enclave is in a frame, and has this content

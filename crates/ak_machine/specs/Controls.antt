@@ -2,9 +2,9 @@
 use Rattle.std.specs.Prelude.{◌≡◌, ℕ, zero, suc, ◌<◌, Bool, true, false, List, [], ◌∷◌, length, Option, Some, None}
 use Rattle.ak_core.specs.Layout.{Layout}
 use Rattle.ak_core.specs.declared.event.Event.{Event}
-use Rattle.ak_model.specs.Build.{queue_at_build}
-use Rattle.ak_model.specs.Control.{Phase, Context, Reason, Saved, Cause, Control}
-use Rattle.ak_model.specs.RuntimeStep.{guard}
+use Rattle.ak_model.specs.Paging.Build.{queue_at_build}
+use Rattle.ak_model.specs.Control.ControlState.{Phase, Context, Reason, Saved, Cause, Control}
+use Rattle.ak_model.specs.Control.RuntimeTurn.{guard}
 use Rattle.ak_machine.specs.declared.activity.Stage.{Stage}
 use Rattle.ak_machine.specs.declared.activity.Activity.{Activity}
 use Rattle.ak_machine.specs.State.{State}
@@ -33,7 +33,7 @@ stack_in Stage.Dead = guard ∷ []
 
 -- why the enclave stopped, at a stage
 abbrev pub cause_in : Stage → Option Cause
-cause_in Stage.Dead = Some Cause.Broken
+cause_in Stage.Dead = Some Cause.ByBreak
 cause_in _ = None
 
 -- a vector or a fault makes resuming wait for the next entry
@@ -60,7 +60,7 @@ stack_at (Activity.Leaving b a) = []
 -- the context inside
 abbrev pub context_at : Activity → Option Context
 context_at (Activity.Outside stage) = None
-context_at (Activity.Entering stage v) = Some (Context.Entry (length (stack_in stage)) v)
+context_at (Activity.Entering stage v) = Some (Context.Enter (length (stack_in stage)) v)
 context_at Activity.Running = Some Context.Program
 context_at (Activity.Leaving b a) = Some (Context.Leave b a)
 

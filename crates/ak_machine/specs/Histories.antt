@@ -2,7 +2,7 @@
 use Rattle.std.specs.Prelude.{ℕ, List}
 use Rattle.ak_core.specs.Layout.{Layout}
 use Rattle.ak_core.specs.declared.event.Event.{Event}
-use Rattle.ak_model.specs.History.{History}
+use Rattle.ak_model.specs.Paging.Histories.{History}
 use Rattle.ak_machine.specs.State.{State}
 use Rattle.ak_machine.specs.Stands.{Stands}
 

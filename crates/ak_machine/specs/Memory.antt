@@ -2,7 +2,7 @@
 use Rattle.std.specs.Prelude.{◌≡◌, ℕ, Bool, ◌&&◌, List, length, replicate, Option, Some, None, is_some, Vec, position, slice_get, slice_index_or, nat_lt, refl}
 use Rattle.std.proofs.lemmas.List.{length-replicate}
 use Rattle.std.specs.declared.alloc.Global.{Global}
-use Rattle.ak_core.specs.Mem.{Touch, Tables}
+use Rattle.ak_core.specs.Mem.{Access, Tables}
 use Rattle.ak_core.specs.declared.page.Entry.{Entry}
 use Rattle.ak_epcm.specs.Entries.{entry_at, has_page}
 use Rattle.ak_pte.specs.Table.{unmapped}
@@ -81,7 +81,7 @@ tables_of table entries = record {
 }
 
 -- a walk by these tables finds the access
-abbrev pub finds : Tables → Touch → Bool
+abbrev pub finds : Tables → Access → Bool
 finds tables t =
     nat_lt t.page.0 tables.pages
     && walk_finds (tables.flags t.page.0) (entry_at tables.entries (tables.frame t.page.0)) t.page.0 t.kind

@@ -8,17 +8,17 @@ use Rattle.ak_core.specs.declared.moves.Move.{Move}
 use Rattle.ak_core.specs.declared.moves.Move.TheVariants.{Run}
 use Rattle.ak_core.specs.declared.moves.Exit.{Exit}
 use Rattle.ak_core.specs.declared.moves.Answer.{Answer}
-use Rattle.ak_model.specs.Pages.{pages}
-use Rattle.ak_model.specs.History.{History}
-use Rattle.ak_model.specs.Control.{Control}
-use Rattle.ak_model.specs.Turn.{Turn, Goes, Leaves}
-use Rattle.ak_model.specs.Turns.{turn, run}
-use Rattle.ak_model.specs.Answers.{answer}
-use Rattle.ak_model.specs.Entering.{control_after}
-use Rattle.ak_model.specs.Premises.{IsLater}
-use Rattle.ak_model.specs.Flat.{flat_run}
-use Rattle.ak_model.specs.Outputs.{output_by, shown_by}
-use Rattle.ak_model.specs.ProgramTurns.{ProgramTurn, turn_in, turns_of_run, turns_of_move}
+use Rattle.ak_model.specs.Paging.Pages.{pages}
+use Rattle.ak_model.specs.Paging.Histories.{History}
+use Rattle.ak_model.specs.Control.ControlState.{Control}
+use Rattle.ak_model.specs.Control.OneTurn.{Turn, Goes, Leaves}
+use Rattle.ak_model.specs.Control.Runs.{turn, run}
+use Rattle.ak_model.specs.Control.Answers.{answer}
+use Rattle.ak_model.specs.Control.Entering.{control_after}
+use Rattle.ak_model.specs.Laws.Premises.{IsLater}
+use Rattle.ak_model.specs.Flat.FlatRuns.{flat_run}
+use Rattle.ak_model.specs.Sound.Outputs.{output_by, shown_by}
+use Rattle.ak_model.specs.Tapes.ProgramTurns.{ProgramTurn, turn_in, turns_of_run, turns_of_move}
 use Rattle.ak_machine.specs.declared.activity.Stage.{Stage}
 use Rattle.ak_machine.specs.declared.activity.Activity.{Activity}
 use Rattle.ak_machine.specs.declared.notes.ProgramNote.{ProgramNote}

@@ -2,8 +2,8 @@
 use Rattle.std.specs.Prelude.{◌≡◌, ℕ, Bool, true, false, List, ◌∷◌, ◌++◌, Option, Some, None, ◌⊎◌}
 use Rattle.std.specs.List.{list_all}
 use Rattle.ak_core.specs.Layout.{Layout}
-use Rattle.ak_core.specs.Mem.{Touch}
-use Rattle.ak_model.specs.Flat.{Flat, Vector, line}
+use Rattle.ak_core.specs.Mem.{Access}
+use Rattle.ak_model.specs.Flat.FlatRuns.{Flat, Vector, line}
 use Rattle.ak_exec.specs.Turns.{Shows}
 use Rattle.ak_machine.specs.declared.activity.Stage.{Stage}
 use Rattle.ak_machine.specs.declared.activity.Activity.{Activity}
@@ -13,16 +13,16 @@ use Rattle.ak_machine.specs.State.{State}
 use Rattle.ak_machine.specs.Faults.{fault_stage}
 
 -- the next instruction of this flat state faults at the access: a walk finds each access before it, and not this one
-pub record FaultsAt (layout : Layout) (state : State) (access : Touch) (flat : Flat) : Type 0 where
-  pub granted : List Touch
-  pub rest : List Touch
-  pub next : (line layout flat).touches ≡ granted ++ access ∷ rest
+pub record FaultsAt (layout : Layout) (state : State) (access : Access) (flat : Flat) : Type 0 where
+  pub granted : List Access
+  pub rest : List Access
+  pub next : (line layout flat).accesses ≡ granted ++ access ∷ rest
   pub found : list_all (finds state.tables) granted ≡ true
   pub lost : finds state.tables access ≡ false
 
 -- the next instruction of this flat state gives the vector: a walk finds each of its accesses
 pub record TrapsBy (layout : Layout) (state : State) (vector : ℕ) (flat : Flat) : Type 0 where
-  pub found : list_all (finds state.tables) (line layout flat).touches ≡ true
+  pub found : list_all (finds state.tables) (line layout flat).accesses ≡ true
   pub ends : (line layout flat).end ≡ Vector vector
 
 -- this holds of each flat state that the machine shows
@@ -46,18 +46,18 @@ is_of_next _ = false
 -- ---- The access that is saved
 
 -- the access of a stage, where the program broke
-abbrev pub stage_access : Stage → Option Touch
+abbrev pub stage_access : Stage → Option Access
 stage_access (Stage.Broken access) = Some access
 stage_access _ = None
 
 -- the access by which the program broke, as long as the runtime has not dealt with it
-abbrev pub saved_access : Activity → Option Touch
+abbrev pub saved_access : Activity → Option Access
 saved_access (Activity.Outside stage) = stage_access stage
 saved_access (Activity.Entering stage v) = stage_access stage
 saved_access _ = None
 
 -- the access of a note, where the program broke
-abbrev pub noted_access : Layout → ProgramNote → Option Touch
+abbrev pub noted_access : Layout → ProgramNote → Option Access
 noted_access layout (ProgramNote.Faulted access) = stage_access (fault_stage layout access)
 noted_access layout _ = None
 

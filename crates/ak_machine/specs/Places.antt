@@ -3,7 +3,7 @@ use Rattle.std.specs.Prelude.{◌≡◌, ℕ, suc, List, [], Some}
 use Rattle.ak_core.specs.Layout.{Layout}
 use Rattle.ak_core.specs.declared.registers.Regs.{Regs}
 use Rattle.ak_core.specs.Mem.{Tables}
-use Rattle.ak_model.specs.Flat.{Flat, End, step, flat_run}
+use Rattle.ak_model.specs.Flat.FlatRuns.{Flat, End, ending, flat_run}
 use Rattle.ak_exec.specs.Turns.{Shows}
 use Rattle.ak_machine.specs.declared.activity.Stage.{Stage}
 use Rattle.ak_machine.specs.declared.activity.Activity.{Activity}
@@ -17,7 +17,7 @@ Reaches layout image returned count flat =
 -- the program's next instruction gives a vector
 pub record IsRaised (layout : Layout) (image : List ℕ) (flat : Flat) (count : ℕ) (returned : List ℕ) (vector : ℕ) : Type 0 where
   pub reached : Reaches layout image returned count flat
-  pub raises : step layout flat ≡ End.Vector vector
+  pub raises : ending layout flat ≡ End.Vector vector
 
 -- the program's last instruction was this call, whose answer is missing
 pub record IsAfterCall (layout : Layout) (image : List ℕ) (flat : Flat) (count : ℕ) (returned : List ℕ) (number argument : ℕ) : Type 0 where
@@ -25,7 +25,7 @@ pub record IsAfterCall (layout : Layout) (image : List ℕ) (flat : Flat) (count
   pub caller : Flat
   pub count_is : count ≡ suc before
   pub reached : Reaches layout image returned before caller
-  pub called : step layout caller ≡ End.Call number argument flat
+  pub called : ending layout caller ≡ End.Call number argument flat
 
 -- the kernel was shown a call, and has not answered it
 pub record IsCalling (layout : Layout) (image : List ℕ) (flat : Flat) (count : ℕ) (returned : List ℕ) : Type 0 where

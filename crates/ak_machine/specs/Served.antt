@@ -4,7 +4,7 @@ use Rattle.ak_core.specs.Layout.{Layout, IsValid}
 use Rattle.ak_core.specs.declared.build.Build.{Build}
 use Rattle.ak_core.specs.declared.moves.Move.{Move}
 use Rattle.ak_core.specs.declared.moves.Move.TheVariants.{SetPte, ReadPte, Eenter, Run}
-use Rattle.ak_model.specs.Pages.{pages}
+use Rattle.ak_model.specs.Paging.Pages.{pages}
 
 -- the layouts that are served: valid ones whose pages are all in from the build on, each in a frame of its own
 pub record IsServedLayout (layout : Layout) : Type 0 where

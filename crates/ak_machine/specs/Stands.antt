@@ -3,19 +3,19 @@ use Rattle.std.specs.Prelude.{◌≡◌, ℕ, ◌<◌, ◌≤◌, Bool, true, fa
 use Rattle.std.specs.List.{list_all}
 use Rattle.ak_core.specs.Layout.{Layout}
 use Rattle.ak_core.specs.Journal.{with_more}
-use Rattle.ak_core.specs.Mem.{Touch, Tables}
+use Rattle.ak_core.specs.Mem.{Access, Tables}
 use Rattle.ak_core.specs.declared.event.Event.{Event}
-use Rattle.ak_model.specs.Pages.{all_pages}
-use Rattle.ak_model.specs.History.{History}
-use Rattle.ak_model.specs.Holdings.{Mapping}
-use Rattle.ak_model.specs.Frames.{held, blocked_at}
-use Rattle.ak_model.specs.PageTable.{pte}
-use Rattle.ak_model.specs.Inside.{inside}
-use Rattle.ak_model.specs.Flat.{flat_run, output_of_call, outputs}
-use Rattle.ak_model.specs.Tape.{is_tape}
-use Rattle.ak_model.specs.Events.{completed_by, step_at, call_at, TrapsAreForced}
-use Rattle.ak_model.specs.ProgramTurns.{ProgramTurn}
-use Rattle.ak_model.specs.MayFault.{MayFault}
+use Rattle.ak_model.specs.Paging.Pages.{all_pages}
+use Rattle.ak_model.specs.Paging.Histories.{History}
+use Rattle.ak_model.specs.Paging.Holdings.{Mapping}
+use Rattle.ak_model.specs.Paging.Frames.{held, blocked_at}
+use Rattle.ak_model.specs.Paging.PageTable.{pte}
+use Rattle.ak_model.specs.Paging.Inside.{inside}
+use Rattle.ak_model.specs.Flat.FlatRuns.{flat_run, output_of_call, outputs}
+use Rattle.ak_model.specs.Tapes.Tape.{is_tape}
+use Rattle.ak_model.specs.Sound.Events.{completed_by, ending_at, call_at, TrapsAreForced}
+use Rattle.ak_model.specs.Tapes.ProgramTurns.{ProgramTurn}
+use Rattle.ak_model.specs.Misses.FaultingAccess.{MayFault}
 use Rattle.ak_epcm.specs.Entries.{entry_at}
 use Rattle.ak_walk.specs.Agrees.{EntryAgrees}
 use Rattle.ak_machine.specs.declared.activity.Stage.{Stage}
@@ -36,7 +36,7 @@ is_unmissed _ = true
 pub record TapeStands (layout : Layout) (image : List ℕ) (count : ℕ) (returned : List ℕ) (events : List Event) : Type 0 where
   pub ordered : is_tape events ≡ true
   pub completed : (i : ℕ) → i < count →
-      option_and_then completed_by (step_at layout (flat_run layout image returned) i) ≡ Some (call_at events i)
+      option_and_then completed_by (ending_at layout (flat_run layout image returned) i) ≡ Some (call_at events i)
   pub traps : TrapsAreForced layout (flat_run layout image returned) events
   pub unmissed : list_all is_unmissed events ≡ true
 
@@ -71,7 +71,7 @@ pub record TablesStand (layout : Layout) (past : History) (activity : Activity) 
 -- ---- What was reached
 
 -- the access may fault at the turn of the break, which this history has behind it
-pub record BreakStands (layout : Layout) (image : List ℕ) (past : History) (count : ℕ) (returned : List ℕ) (access : Touch) : Type 0 where
+pub record BreakStands (layout : Layout) (image : List ℕ) (past : History) (count : ℕ) (returned : List ℕ) (access : Access) : Type 0 where
   pub turn : ProgramTurn
   pub newer : History
   pub earlier : past ≡ newer ++ turn.past

@@ -1,11 +1,11 @@
 // The machine, and one turn of its processor.
 ghost use Rattle.std.specs.Prelude.{◌≡◌, ◌+◌, ◌<◌, ◌≤◌, ◌^◌, ℕ, List, Some, None, IfSome, is_some, not, true, false};
 ghost use Rattle.ak_core.specs.declared.registers.Mode.TheVariants.{Program};
-ghost use Rattle.ak_model.specs.Pages.{all_pages};
+ghost use Rattle.ak_model.specs.Paging.Pages.{all_pages};
 ghost use Rattle.ak_core.specs.declared.event.Event.{Event as TheEvent};
-ghost use Rattle.ak_model.specs.Flat.{zeroed};
-ghost use Rattle.ak_model.specs.History.{History};
-ghost use Rattle.ak_model.specs.Walk.{walkable as is_walkable};
+ghost use Rattle.ak_model.specs.Flat.FlatRuns.{zeroed};
+ghost use Rattle.ak_model.specs.Paging.Histories.{History};
+ghost use Rattle.ak_model.specs.Paging.Walk.{walkable as is_walkable};
 ghost use Rattle.ak_machine.specs.Served.{IsServedLayout};
 ghost use Rattle.ak_machine.specs.Faults.{fault_stage};
 ghost use Rattle.ak_machine.specs.Turning.{note_or};

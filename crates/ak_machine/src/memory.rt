@@ -23,7 +23,7 @@ pub struct Memory {
     pub table: PageTable,
     /// How many pages the page table has.
     pub pages: u32,
-    /// The touches that were granted since the turn began.
+    /// The accesses that were granted since the turn began.
     pub touched: ArrayVec<Fault, 4>,
     /// The touch that was refused since the turn began.
     pub denied: Option<Fault>,

@@ -1,7 +1,7 @@
 // What the enclave's pages allow (SDM volume 3D, "SECINFO").
 ghost use Rattle.std.specs.Prelude.{◌≡◌};
-ghost use Rattle.ak_model.specs.Pages.{allows, perm_of as page_perm};
-ghost use Rattle.ak_model.specs.Flat.{is_forbidden as forbids};
+ghost use Rattle.ak_model.specs.Paging.Pages.{allows, perm_of as page_perm};
+ghost use Rattle.ak_model.specs.Flat.FlatRuns.{is_forbidden as forbids};
 
 use ak_core::{Fault, Kind, Layout, Page, Perm, code_page, tcs_page};
 

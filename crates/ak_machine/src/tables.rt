@@ -1,8 +1,8 @@
 // The tables at the end of the build.
 ghost use Rattle.std.specs.Prelude.{◌≡◌, ◌+◌, ◌<◌, ℕ, None, IfOk, length, option_map};
 ghost use Rattle.ak_core.specs.declared.build.Build.{Build as HowBuilt};
-ghost use Rattle.ak_model.specs.Pages.{pages, all_pages};
-ghost use Rattle.ak_model.specs.Build.{held_at_build, entry_at_build};
+ghost use Rattle.ak_model.specs.Paging.Pages.{pages, all_pages};
+ghost use Rattle.ak_model.specs.Paging.Build.{held_at_build, entry_at_build};
 ghost use Rattle.ak_epcm.specs.Entries.{entry_at};
 ghost use Rattle.ak_walk.specs.Agrees.{EntryAgrees, HoldsPage, IsOfType};
 ghost use Rattle.ak_machine.specs.Served.{IsServedLayout};

@@ -3,22 +3,22 @@ use Rattle.std.proofs.Common.{ℕ, zero, suc, [], ◌∷◌, ◌++◌, refl, ap,
 use Rattle.std.proofs.lemmas.List.{append-nil}
 use Rattle.std.specs.Prelude.{Bool, true, false, List, Option, Some, None, ◌==◌, if◌then◌else◌}
 use Rattle.ak_core.specs.Layout.{Layout}
-use Rattle.ak_core.specs.Mem.{Touch}
+use Rattle.ak_core.specs.Mem.{Access}
 use Rattle.ak_core.specs.declared.event.Event.{Event}
 use Rattle.ak_core.specs.declared.event.Event.TheVariants.{Call, Miss, Trap, Break}
 use Rattle.ak_core.specs.declared.moves.Move.{Move}
 use Rattle.ak_core.specs.declared.moves.Move.TheVariants.{SetPte, ReadPte, Eblock, Etrack, Ewb, Eldu, Eldb, Eremove, Epa, Discard, Eenter, Eresume, Run, Interrupt}
 use Rattle.ak_core.specs.declared.moves.Answer.{Answer}
 use Rattle.ak_core.specs.declared.moves.Answer.TheVariants.{Ok, Exit as Exited}
-use Rattle.ak_model.specs.History.{History}
-use Rattle.ak_model.specs.Control.{Phase, New, Running, Calling, Asked, Ended, Trapped, Dead, Context, Program, Entry, Probe, Finish, Guard, Leave, Reason, Interrupted, Cleared, Raised, Denied, Missed, Broke, Faulted, Saved, Control}
-use Rattle.ak_model.specs.Turn.{Turn, Goes, Leaves}
-use Rattle.ak_model.specs.RuntimeStep.{touches, step_fault, handle, enter, finish, resume_guard, leave_call, effect, unless_fault}
-use Rattle.ak_model.specs.ProgramStep.{due, event_turn}
-use Rattle.ak_model.specs.Turns.{turn_of, turn, go_on, run}
-use Rattle.ak_model.specs.Entering.{resumed_by, interrupted_by, on_ok, on_exit, control_after}
-use Rattle.ak_model.specs.Outputs.{IsPrefixOf}
-use Rattle.ak_model.proofs.TapeRuns.{after}
+use Rattle.ak_model.specs.Paging.Histories.{History}
+use Rattle.ak_model.specs.Control.ControlState.{Phase, New, Running, Calling, Asked, Ended, Trapped, Dead, Context, Program, Enter, Probe, Finish, Guard, Leave, Reason, Interrupted, Cleared, Raised, Denied, Missed, Broke, Faulted, Saved, Control}
+use Rattle.ak_model.specs.Control.OneTurn.{Turn, Goes, Leaves}
+use Rattle.ak_model.specs.Control.RuntimeTurn.{accesses, step_fault, handle, enter, finish, resume_guard, leave_call, effect, unless_fault}
+use Rattle.ak_model.specs.Control.EventTurn.{due, event_turn}
+use Rattle.ak_model.specs.Control.Runs.{turn_of, turn, go_on, run}
+use Rattle.ak_model.specs.Control.Entering.{resumed_by, interrupted_by, on_ok, on_exit, control_after}
+use Rattle.ak_model.specs.Sound.Outputs.{IsPrefixOf}
+use Rattle.ak_model.proofs.Tapes.RunsOverTapes.{after}
 
 -- ---- Beginnings
 
@@ -93,13 +93,13 @@ module _ (layout : Layout) (control : Control) where
 
   effect_grows : (context : Context) → GrowsBy control (effect layout control context)
   effect_grows Program = grows-same control
-  effect_grows (Entry k v) = enter_grows k v control.phase
+  effect_grows (Enter k v) = enter_grows k v control.phase
   effect_grows (Probe i) = grows-same control
   effect_grows Finish = finish_grows control.phase
   effect_grows Guard = guard_grows control.phase
   effect_grows (Leave b a) = leave_grows b a
 
-  step_grows : (context : Context) (t : Option Touch) → GrowsBy control (unless_fault layout control context t)
+  step_grows : (context : Context) (t : Option Access) → GrowsBy control (unless_fault layout control context t)
   step_grows context None = effect_grows context
   step_grows context (Some t) = grows-same control
 
@@ -117,11 +117,11 @@ module _ (layout : Layout) (control : Control) where
   turn_grows : (past : History) (now : Option Context) → GrowsBy control (turn_of layout past control now)
   turn_grows past None = grows-same control
   turn_grows past (Some Program) = event_grows (due control.count control.rest)
-  turn_grows past (Some (Entry k v)) = step_grows (Entry k v) (step_fault layout past (touches layout control (Entry k v)))
-  turn_grows past (Some (Probe i)) = step_grows (Probe i) (step_fault layout past (touches layout control (Probe i)))
-  turn_grows past (Some Finish) = step_grows Finish (step_fault layout past (touches layout control Finish))
-  turn_grows past (Some Guard) = step_grows Guard (step_fault layout past (touches layout control Guard))
-  turn_grows past (Some (Leave b a)) = step_grows (Leave b a) (step_fault layout past (touches layout control (Leave b a)))
+  turn_grows past (Some (Enter k v)) = step_grows (Enter k v) (step_fault layout past (accesses layout control (Enter k v)))
+  turn_grows past (Some (Probe i)) = step_grows (Probe i) (step_fault layout past (accesses layout control (Probe i)))
+  turn_grows past (Some Finish) = step_grows Finish (step_fault layout past (accesses layout control Finish))
+  turn_grows past (Some Guard) = step_grows Guard (step_fault layout past (accesses layout control Guard))
+  turn_grows past (Some (Leave b a)) = step_grows (Leave b a) (step_fault layout past (accesses layout control (Leave b a)))
 
 -- ---- Runs and moves
 

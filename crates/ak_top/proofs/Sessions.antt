@@ -8,20 +8,20 @@ use Rattle.ak_core.specs.Journal.{Journal, with_more, first_stop, SameLists}
 use Rattle.ak_core.specs.declared.event.Event.{Event}
 use Rattle.ak_core.specs.declared.moves.Move.{Move}
 use Rattle.ak_core.specs.declared.moves.Answer.{Answer}
-use Rattle.ak_model.specs.Control.{Control}
-use Rattle.ak_model.specs.Flat.{flat_run, outputs}
-use Rattle.ak_model.specs.Premises.{IsLater}
-use Rattle.ak_model.specs.Trace.{Moment, trace, step, answered}
-use Rattle.ak_model.specs.Ends.{Runs, ended_at, runs_of}
-use Rattle.ak_model.specs.Outputs.{shown_by, shown_outputs, IsPrefixOf, OutputsAreFlat}
-use Rattle.ak_model.specs.Answers.{answer}
-use Rattle.ak_model.specs.Entering.{control_after}
-use Rattle.ak_model.specs.Events.{completed_by, step_at, call_at, TrapsAreForced, EventsAreFlat}
-use Rattle.ak_model.specs.Answered.{AnswersAreTraced}
-use Rattle.ak_model.specs.ProgramTurns.{ProgramTurn, turns_of_move, program_turns}
-use Rattle.ak_model.specs.Forced.{EachTurn, turns_of, ReachedBy, TouchesAreReached, BrokenBy, BreaksAreForced}
-use Rattle.ak_model.proofs.TurnRuns.{turns-one_more}
-use Rattle.ak_model.proofs.TurnFacts.{alone-append}
+use Rattle.ak_model.specs.Control.ControlState.{Control}
+use Rattle.ak_model.specs.Flat.FlatRuns.{flat_run, outputs}
+use Rattle.ak_model.specs.Laws.Premises.{IsLater}
+use Rattle.ak_model.specs.Control.Trace.{Moment, trace, after_move, after_answer}
+use Rattle.ak_model.specs.Tapes.LastMoment.{FlatRuns, last_moment, runs_of}
+use Rattle.ak_model.specs.Sound.Outputs.{shown_by, shown_outputs, IsPrefixOf, OutputsAreFlat}
+use Rattle.ak_model.specs.Control.Answers.{answer}
+use Rattle.ak_model.specs.Control.Entering.{control_after}
+use Rattle.ak_model.specs.Sound.Events.{completed_by, ending_at, call_at, TrapsAreForced, EventsAreFlat}
+use Rattle.ak_model.specs.Sound.TracedAnswers.{AnswersAreTraced}
+use Rattle.ak_model.specs.Tapes.ProgramTurns.{ProgramTurn, turns_of_move, program_turns}
+use Rattle.ak_model.specs.Sound.Forced.{EachTurn, turns_of, ReachedBy, AccessesAreReached, BrokenBy, BreaksAreForced}
+use Rattle.ak_model.proofs.Tapes.TurnByTurn.{turns-one_more}
+use Rattle.ak_model.proofs.Tapes.EachTurn.{alone-append}
 use Rattle.ak_machine.specs.State.{State}
 use Rattle.ak_machine.specs.Controls.{control_of}
 use Rattle.ak_machine.specs.Stands.{unshown}
@@ -57,8 +57,8 @@ shown_outputs-append answers a =
 
 step_is : (layout : Layout) (moment : Moment) (m : Move) (a : Answer) (control : Control) → answer layout moment.past moment.control m ≡ a →
     control_after layout moment.past moment.control m a ≡ control →
-    step layout moment m ≡ record { past = (m, a) ∷ moment.past; control = control }
-step_is layout moment m a control e f = ap (answered layout moment m) e ∙ ap (λ c. record { past = (m, a) ∷ moment.past; control = c }) f
+    after_move layout moment m ≡ record { past = (m, a) ∷ moment.past; control = control }
+step_is layout moment m a control e f = ap (after_answer layout moment m) e ∙ ap (λ c. record { past = (m, a) ∷ moment.past; control = c }) f
 
 module _ (layout : Layout) (image : List ℕ) (old new : State) (j : Journal) (m : Move) (a : Answer) (event : Option Event) (f : Faithful layout image old j) (d : DoesMove layout image f.past old new m a event f.values j.outputs j.events) where
   -- where the moves before it led
@@ -70,8 +70,8 @@ module _ (layout : Layout) (image : List ℕ) (old new : State) (j : Journal) (m
       ≡ record { past = (m, a) ∷ f.past; control = control_of layout new d.values later }
   more_traced later ok =
       ap (trace layout (with_more j.events event ++ later)) (reverse_more j.moves m)
-      ∙ ap (λ es. step layout (trace layout es (reverse j.moves)) m) (events_more j.events event later)
-      ∙ ap (λ moment. step layout moment m) (f.traced (first_then event later) (d.due later ok))
+      ∙ ap (λ es. after_move layout (trace layout es (reverse j.moves)) m) (events_more j.events event later)
+      ∙ ap (λ moment. after_move layout moment m) (f.traced (first_then event later) (d.due later ok))
       ∙ step_is layout (moment_before later) m a _ (d.answered later ok) (d.traced later ok)
 
   more_turns : (later : List Event) → IsLater later new.count →
@@ -154,12 +154,12 @@ prefix_of xs (Some x) = (x ∷ [], refl)
 
 record FlatAt (image : List ℕ) (layout : Layout) (journal : Journal) (moment : Moment) : Type 0 where
   pub completed : (i : ℕ) → i < moment.control.count →
-      option_and_then completed_by (step_at layout (flat_run layout image moment.control.returned) i)
+      option_and_then completed_by (ending_at layout (flat_run layout image moment.control.returned) i)
       ≡ Some (call_at journal.events i)
   pub traps : TrapsAreForced layout (flat_run layout image moment.control.returned) journal.events
 
 module _ (layout : Layout) (image : List ℕ) (state : State) (j : Journal) (f : Faithful layout image state j) where
-  ends : ended_at layout j ≡ record { past = f.past; control = control_of layout state f.values [] }
+  ends : last_moment layout j ≡ record { past = f.past; control = control_of layout state f.values [] }
   ends = ap (λ es. trace layout es (reverse j.moves)) (sym (append-nil j.events)) ∙ f.traced [] tt
 
   turns_end : turns_of layout j ≡ f.turns
@@ -169,7 +169,7 @@ module _ (layout : Layout) (image : List ℕ) (state : State) (j : Journal) (f :
   runs_end = ap (λ (moment : Moment). flat_run layout image moment.control.returned) ends
 
   -- what holds of the turns so far holds of the journal's
-  of_journal : (P : Runs → ProgramTurn → List ProgramTurn → Type 0) → EachTurn (P (flat_run layout image f.values)) f.turns →
+  of_journal : (P : FlatRuns → ProgramTurn → List ProgramTurn → Type 0) → EachTurn (P (flat_run layout image f.values)) f.turns →
       EachTurn (P (runs_of layout image j)) (turns_of layout j)
   of_journal P h =
       subst (λ runs. EachTurn (P runs) (turns_of layout j)) (sym runs_end)
@@ -196,14 +196,14 @@ module _ (layout : Layout) (image : List ℕ) (state : State) (j : Journal) (f :
         taken = ap (λ moment. moment.control.rest) ends;
       }
 
-  faithful_reached : TouchesAreReached image layout j
+  faithful_reached : AccessesAreReached image layout j
   faithful_reached =
-      let P : Runs → ProgramTurn → List ProgramTurn → Type 0 = λ runs turn older. ReachedBy layout runs turn turn.event in
+      let P : FlatRuns → ProgramTurn → List ProgramTurn → Type 0 = λ runs turn older. ReachedBy layout runs turn turn.event in
       record { turns_reach = of_journal P (are_reached layout (flat_run layout image f.values) f.turns f.sound) }
 
   faithful_breaks : BreaksAreForced image layout j
   faithful_breaks =
-      let P : Runs → ProgramTurn → List ProgramTurn → Type 0 = λ runs turn older. BrokenBy layout runs turn older turn.event in
+      let P : FlatRuns → ProgramTurn → List ProgramTurn → Type 0 = λ runs turn older. BrokenBy layout runs turn older turn.event in
       record { turns_break = of_journal P (are_forced layout (flat_run layout image f.values) f.turns f.sound) }
 
 -- the journal of these moves

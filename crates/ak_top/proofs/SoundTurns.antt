@@ -3,14 +3,14 @@ use Rattle.std.proofs.Common.{◌≡◌, ℕ, [], ◌∷◌, sym, subst}
 use Rattle.std.specs.Prelude.{List, Option, None}
 use Rattle.ak_core.specs.Layout.{Layout}
 use Rattle.ak_core.specs.declared.event.Event.{Event}
-use Rattle.ak_model.specs.Build.{queue_at_build}
-use Rattle.ak_model.specs.Flat.{flat_run}
-use Rattle.ak_model.specs.Ends.{Runs}
-use Rattle.ak_model.specs.Outputs.{IsPrefixOf}
-use Rattle.ak_model.specs.ProgramTurns.{ProgramTurn}
-use Rattle.ak_model.specs.MayFault.{MayFault}
-use Rattle.ak_model.specs.Forced.{EachTurn, ReachedBy, FaultsIn, IfBroken, BrokenBy, missed_by, queue_by}
-use Rattle.ak_model.proofs.TurnFacts.{each-from, queue_by-none}
+use Rattle.ak_model.specs.Paging.Build.{queue_at_build}
+use Rattle.ak_model.specs.Flat.FlatRuns.{flat_run}
+use Rattle.ak_model.specs.Tapes.LastMoment.{FlatRuns}
+use Rattle.ak_model.specs.Sound.Outputs.{IsPrefixOf}
+use Rattle.ak_model.specs.Tapes.ProgramTurns.{ProgramTurn}
+use Rattle.ak_model.specs.Misses.FaultingAccess.{MayFault}
+use Rattle.ak_model.specs.Sound.Forced.{EachTurn, ReachedBy, FaultsIn, IfBroken, BrokenBy, missed_by, queue_by}
+use Rattle.ak_model.proofs.Tapes.EachTurn.{each-from, queue_by-none}
 use Rattle.ak_machine.specs.SoundTurns.{FaultsBy, IsSoundTurn, AreSound}
 use Rattle.ak_machine.proofs.SoundTurns.{sound-longer}
 
@@ -23,7 +23,7 @@ are_sound-longer layout image before after front turns h =
 
 -- ---- A journal's turns
 
-module _ (layout : Layout) (runs : Runs) where
+module _ (layout : Layout) (runs : FlatRuns) where
   -- where they complete or trap, their accesses were reached
   pub are_reached : (turns : List ProgramTurn) → AreSound layout runs turns →
       EachTurn (λ turn. λ older. ReachedBy layout runs turn turn.event) turns

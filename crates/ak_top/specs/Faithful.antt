@@ -3,12 +3,12 @@ use Rattle.std.specs.Prelude.{◌≡◌, ℕ, List, ◌++◌, map, reverse, None
 use Rattle.ak_core.specs.Layout.{Layout}
 use Rattle.ak_core.specs.Journal.{Journal}
 use Rattle.ak_core.specs.declared.event.Event.{Event}
-use Rattle.ak_model.specs.History.{History}
-use Rattle.ak_model.specs.Flat.{flat_run}
-use Rattle.ak_model.specs.Trace.{trace}
-use Rattle.ak_model.specs.ProgramTurns.{ProgramTurn, program_turns}
-use Rattle.ak_model.specs.Premises.{IsLater}
-use Rattle.ak_model.specs.Outputs.{shown_outputs}
+use Rattle.ak_model.specs.Paging.Histories.{History}
+use Rattle.ak_model.specs.Flat.FlatRuns.{flat_run}
+use Rattle.ak_model.specs.Control.Trace.{trace}
+use Rattle.ak_model.specs.Tapes.ProgramTurns.{ProgramTurn, program_turns}
+use Rattle.ak_model.specs.Laws.Premises.{IsLater}
+use Rattle.ak_model.specs.Sound.Outputs.{shown_outputs}
 use Rattle.ak_machine.specs.State.{State}
 use Rattle.ak_machine.specs.Controls.{control_of}
 use Rattle.ak_machine.specs.Stands.{Stands}

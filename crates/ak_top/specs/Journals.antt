@@ -4,10 +4,10 @@ use Rattle.std.specs.List.{list_all}
 use Rattle.ak_core.specs.Journal.{Journal}
 use Rattle.ak_core.specs.Layout.{Layout}
 use Rattle.ak_core.specs.declared.moves.Move.{Move}
-use Rattle.ak_model.specs.Outputs.{OutputsAreFlat}
-use Rattle.ak_model.specs.Events.{EventsAreFlat}
-use Rattle.ak_model.specs.Answered.{AnswersAreTraced}
-use Rattle.ak_model.specs.Forced.{TouchesAreReached, BreaksAreForced}
+use Rattle.ak_model.specs.Sound.Outputs.{OutputsAreFlat}
+use Rattle.ak_model.specs.Sound.Events.{EventsAreFlat}
+use Rattle.ak_model.specs.Sound.TracedAnswers.{AnswersAreTraced}
+use Rattle.ak_model.specs.Sound.Forced.{AccessesAreReached, BreaksAreForced}
 use Rattle.ak_machine.specs.Stands.{is_unmissed}
 use Rattle.ak_image.specs.Image.{Image, layout_of}
 use Rattle.ak_top.specs.declared.inputs.Inputs.{Inputs}
@@ -20,7 +20,7 @@ pub record IsJournalOn (layout : Layout) (program : List ℕ) (moves : List Move
   pub outputs : OutputsAreFlat program layout journal
   pub events : EventsAreFlat program layout journal
   pub answers : AnswersAreTraced layout journal
-  pub reached : TouchesAreReached program layout journal
+  pub reached : AccessesAreReached program layout journal
   pub breaks : BreaksAreForced program layout journal
   pub unmissed : IsTrue (list_all is_unmissed journal.events)
   pub stop : journal.stop ≡ None

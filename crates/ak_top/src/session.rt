@@ -2,7 +2,7 @@
 ghost use Rattle.std.specs.Prelude.{◌≡◌, ◌+◌, ◌<◌, ◌≤◌, ◌^◌, ◌++◌, ◌∷◌, [], ℕ, List, None, IfOk, OnOk, OnErr, IsTrue, length};
 ghost use Rattle.std.specs.List.{list_all};
 ghost use Rattle.ak_core.specs.Journal.{SameLists};
-ghost use Rattle.ak_model.specs.Outputs.{shown_by};
+ghost use Rattle.ak_model.specs.Sound.Outputs.{shown_by};
 ghost use Rattle.ak_machine.specs.Served.{is_served};
 ghost use Rattle.ak_machine.specs.Built.{IsBuilt};
 ghost use Rattle.ak_machine.specs.State.{state_of, layout_of};

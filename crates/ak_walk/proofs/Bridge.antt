@@ -12,12 +12,12 @@ use Rattle.ak_core.specs.declared.page.Kind.TheVariants.{Read, Write, Exec}
 use Rattle.ak_core.specs.declared.page.Perm.{Perm}
 use Rattle.ak_core.specs.declared.page.PageType.{PageType}
 use Rattle.ak_core.specs.declared.page.PageType.TheVariants.{Secs, Tcs, Reg, Va}
-use Rattle.ak_model.specs.History.{History}
-use Rattle.ak_model.specs.Holdings.{Held, FreeFrame, SecsFrame, VaFrame, PageFrame, holds}
-use Rattle.ak_model.specs.Frames.{held, blocked_at}
-use Rattle.ak_model.specs.PageTable.{pte}
-use Rattle.ak_model.specs.Pages.{pages, permits, permits_by, tcs_page}
-use Rattle.ak_model.specs.Walk.{flags_allow, is_preset, is_in_frame, walkable, tcs_walkable}
+use Rattle.ak_model.specs.Paging.Histories.{History}
+use Rattle.ak_model.specs.Paging.Holdings.{Held, FreeFrame, SecsFrame, VaFrame, PageFrame, is_page_in}
+use Rattle.ak_model.specs.Paging.Frames.{held, blocked_at}
+use Rattle.ak_model.specs.Paging.PageTable.{pte}
+use Rattle.ak_model.specs.Paging.Pages.{pages, permits, permits_by, tcs_page}
+use Rattle.ak_model.specs.Paging.Walk.{flags_allow, is_preset, is_in_frame, walkable, tcs_walkable}
 use Rattle.ak_epcm.specs.Entries.{free_entry, entry_at, is_addressed, has_page}
 use Rattle.ak_pte.specs.declared.table.Pte.{Pte}
 use Rattle.ak_walk.specs.Finds.{is_reg, is_tcs, is_open, entry_allows, walk_finds, tcs_walk_finds}
@@ -140,7 +140,7 @@ page_finds layout entry p since kind held_here is_held agrees =
 entry_finds : (layout : Layout) (entry : Entry) (h : Held) (since : Option ℕ) (p : ℕ) (kind : Kind)
     → EntryAgrees layout entry h since
     → (is_open entry p && (is_reg entry.kind && entry_allows entry kind))
-    ≡ (permits layout p kind && (holds h p && is_none since))
+    ≡ (permits layout p kind && (is_page_in h p && is_none since))
 entry_finds layout entry FreeFrame since p kind agrees =
     first_false entry.valid _ _ agrees ∙ sym (middle_false (permits layout p kind) false (is_none since) refl)
 entry_finds layout entry SecsFrame since p kind agrees =
@@ -160,7 +160,7 @@ entry_finds layout entry (PageFrame q) since p kind agrees =
 -- the EPCM's part of entering
 tcs_finds : (layout : Layout) (entry : Entry) (h : Held) (since : Option ℕ) (p : ℕ) → p ≡ tcs_page layout
     → EntryAgrees layout entry h since
-    → (is_open entry p && is_tcs entry.kind) ≡ (holds h p && is_none since)
+    → (is_open entry p && is_tcs entry.kind) ≡ (is_page_in h p && is_none since)
 tcs_finds layout entry FreeFrame since p is_tcs_page agrees = first_false entry.valid _ _ agrees
 tcs_finds layout entry SecsFrame since p is_tcs_page agrees =
     right_false (is_open entry p) (is_tcs entry.kind) (ap is_tcs agrees.kind)

@@ -5,8 +5,8 @@ use Rattle.ak_core.specs.declared.page.Entry.{Entry}
 use Rattle.ak_core.specs.declared.page.Kind.TheVariants.{Read, Write, Exec}
 use Rattle.ak_core.specs.declared.page.PageType.{PageType}
 use Rattle.ak_core.specs.declared.page.PageType.TheVariants.{Secs, Tcs, Reg, Va}
-use Rattle.ak_model.specs.Holdings.{Held, FreeFrame, SecsFrame, VaFrame, PageFrame}
-use Rattle.ak_model.specs.Pages.{permits, tcs_page}
+use Rattle.ak_model.specs.Paging.Holdings.{Held, FreeFrame, SecsFrame, VaFrame, PageFrame}
+use Rattle.ak_model.specs.Paging.Pages.{permits, tcs_page}
 
 -- the type of a page of the enclave: the TCS page's, or a regular one's
 abbrev pub type_of_page : Layout → ℕ → PageType

@@ -7,7 +7,7 @@ use Rattle.ak_core.specs.declared.page.Kind.{Kind}
 use Rattle.ak_core.specs.declared.page.Kind.TheVariants.{Read, Write, Exec}
 use Rattle.ak_core.specs.declared.page.PageType.{PageType}
 use Rattle.ak_core.specs.declared.page.PageType.TheVariants.{Secs, Tcs, Reg, Va}
-use Rattle.ak_model.specs.Walk.{is_preset, flags_allow}
+use Rattle.ak_model.specs.Paging.Walk.{is_preset, flags_allow}
 
 -- the type is that of a regular page
 abbrev pub is_reg : PageType → Bool

@@ -1,6 +1,6 @@
 // One walk: the entry of the page table, and the EPCM's entry of the frame that it names. No walk sets a flag.
 ghost use Rattle.std.specs.Prelude.{◌≡◌, if◌then◌else◌};
-ghost use Rattle.ak_model.specs.Walk.{is_preset, flags_allow};
+ghost use Rattle.ak_model.specs.Paging.Walk.{is_preset, flags_allow};
 ghost use Rattle.ak_epcm.specs.Entries.{entry_at};
 ghost use Rattle.ak_walk.specs.Finds.{is_open, entry_allows, walk_finds, tcs_walk_finds};
 

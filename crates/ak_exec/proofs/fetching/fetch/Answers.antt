@@ -1,9 +1,9 @@
 use Rattle.std.proofs.Common.{◌≡◌, true, ◌+◌, ◌-◌, ◌/◌, ◌%◌, ◌<◌, [], ◌∷◌, ◌++◌, take, drop, length, ap, sym, ◌∙◌, arith}
-use Rattle.ak_core.specs.Mem.{touch}
+use Rattle.ak_core.specs.Mem.{access_to}
 use Rattle.ak_core.specs.declared.page.Kind.TheVariants.{Exec}
-use Rattle.ak_model.specs.Pages.{pages}
-use Rattle.ak_model.specs.Encodings.{decode}
-use Rattle.ak_model.specs.Flat.{Vector, line_of, perform, in_first_page, page_bytes}
+use Rattle.ak_model.specs.Paging.Pages.{pages}
+use Rattle.ak_model.specs.Flat.Encodings.{decode}
+use Rattle.ak_model.specs.Flat.FlatRuns.{Vector, line_of, perform, in_first_page, page_bytes}
 use Rattle.ak_exec.proofs.Lines.{first_line, first_refused, at_the_end, next_line}
 use Rattle.ak_exec.proofs.fetching.fetch.Goals as goal
 
@@ -21,7 +21,7 @@ returns-in-Whole-clause-line g c flat r shows =
     let inside : p < pages c.args.layout.now = omega (arith, n) in
     let page : g.M.Mem.bytes c.touch_exec.new.self p ≡ page_bytes flat p = ap (λ f. f p) c.in_default.ensures.bytes ∙ shows p inside c.in_default.ensures.touch.held in
     let window = c.deref.ensures.0 ∙ c.take_bytes.ensures ∙ ap (λ xs. take 10 (xs ++ drop ((c.args.rip - c.base-base.result) % 4096) (g.M.Mem.bytes c.touch_exec.new.self p))) c.new-window.ensures in
-    let granted : g.M.Mem.granted c.touch_exec.new.self ≡ touch p Exec ∷ [] = c.in_default.ensures.touch.ok ∙ ap (λ xs. xs ++ touch p Exec ∷ []) c.requires.begun in
+    let granted : g.M.Mem.granted c.touch_exec.new.self ≡ access_to p Exec ∷ [] = c.in_default.ensures.touch.ok ∙ ap (λ xs. xs ++ access_to p Exec ∷ []) c.requires.begun in
     first_line c.args.layout.now flat c.args.rip c.base-base.result c.decode.result (g.M.Mem.bytes c.touch_exec.new.self p) c.deref.result.now
     c.base-base.ensures.base r (omega arith) (omega (arith, n)) page window c.decode.ensures.table
     ∙ ap (in_first_page c.args.layout.now flat p) c.in-Whole.is
@@ -34,7 +34,7 @@ returns-in-Illegal-clause-line g c flat r shows =
     let inside : p < pages c.args.layout.now = omega (arith, n) in
     let page : g.M.Mem.bytes c.touch_exec.new.self p ≡ page_bytes flat p = ap (λ f. f p) c.in_default.ensures.bytes ∙ shows p inside c.in_default.ensures.touch.held in
     let window = c.deref.ensures.0 ∙ c.take_bytes.ensures ∙ ap (λ xs. take 10 (xs ++ drop ((c.args.rip - c.base-base.result) % 4096) (g.M.Mem.bytes c.touch_exec.new.self p))) c.new-window.ensures in
-    let granted : g.M.Mem.granted c.touch_exec.new.self ≡ touch p Exec ∷ [] = c.in_default.ensures.touch.ok ∙ ap (λ xs. xs ++ touch p Exec ∷ []) c.requires.begun in
+    let granted : g.M.Mem.granted c.touch_exec.new.self ≡ access_to p Exec ∷ [] = c.in_default.ensures.touch.ok ∙ ap (λ xs. xs ++ access_to p Exec ∷ []) c.requires.begun in
     first_line c.args.layout.now flat c.args.rip c.base-base.result c.decode.result (g.M.Mem.bytes c.touch_exec.new.self p) c.deref.result.now
     c.base-base.ensures.base r (omega arith) (omega (arith, n)) page window c.decode.ensures.table
     ∙ ap (in_first_page c.args.layout.now flat p) c.in-Illegal.is
@@ -47,7 +47,7 @@ returns-then-next-pages-clause-line g c flat r shows =
     let inside : p < pages c.args.layout.now = omega (arith, n) in
     let page : g.M.Mem.bytes c.touch_exec.new.self p ≡ page_bytes flat p = ap (λ f. f p) c.in_default.ensures.bytes ∙ shows p inside c.in_default.ensures.touch.held in
     let window = c.deref.ensures.0 ∙ c.take_bytes.ensures ∙ ap (λ xs. take 10 (xs ++ drop ((c.args.rip - c.base-base.result) % 4096) (g.M.Mem.bytes c.touch_exec.new.self p))) c.new-window.ensures in
-    let granted : g.M.Mem.granted c.touch_exec.new.self ≡ touch p Exec ∷ [] = c.in_default.ensures.touch.ok ∙ ap (λ xs. xs ++ touch p Exec ∷ []) c.requires.begun in
+    let granted : g.M.Mem.granted c.touch_exec.new.self ≡ access_to p Exec ∷ [] = c.in_default.ensures.touch.ok ∙ ap (λ xs. xs ++ access_to p Exec ∷ []) c.requires.begun in
     first_line c.args.layout.now flat c.args.rip c.base-base.result c.decode.result (g.M.Mem.bytes c.touch_exec.new.self p) c.deref.result.now
     c.base-base.ensures.base r (omega arith) (omega (arith, n)) page window c.decode.ensures.table
     ∙ ap (in_first_page c.args.layout.now flat p) c.in-NeedMore.is
@@ -62,7 +62,7 @@ returns-else-next-pages-clause-line g c flat r shows =
     let next : p + 1 < pages c.args.layout.now = omega (arith, n) in
     let page : g.M.Mem.bytes c.touch_exec.new.self p ≡ page_bytes flat p = ap (λ f. f p) c.in_default.ensures.bytes ∙ shows p inside c.in_default.ensures.touch.held in
     let window = c.take_bytes.ensures ∙ ap (λ xs. take 10 (xs ++ drop ((c.args.rip - c.base-base.result) % 4096) (g.M.Mem.bytes c.touch_exec.new.self p))) c.new-window.ensures in
-    let granted : g.M.Mem.granted c.touch_exec.new.self ≡ touch p Exec ∷ [] = c.in_default.ensures.touch.ok ∙ ap (λ xs. xs ++ touch p Exec ∷ []) c.requires.begun in
+    let granted : g.M.Mem.granted c.touch_exec.new.self ≡ access_to p Exec ∷ [] = c.in_default.ensures.touch.ok ∙ ap (λ xs. xs ++ access_to p Exec ∷ []) c.requires.begun in
     let held = λ (h : g.M.Mem.holds c.touch_exec.new.self (p + 1) ≡ true). ap (λ f. f (p + 1)) c.in_default.ensures.bytes ∙ shows (p + 1) next (ap (λ f. f (p + 1)) (sym c.in_default.ensures.holds) ∙ h) in
     next_line c.args.layout.now flat c.args.rip c.base-base.result c.fetch_across.result (g.M.Mem.bytes c.touch_exec.new.self p) c.take_bytes.new.window.items (g.M.Mem.bytes c.touch_exec.new.self (p + 1))
     (g.M.Mem.holds c.touch_exec.new.self) (g.M.Mem.granted c.touch_exec.new.self) (g.M.Mem.granted c.fetch_across.new.mem)

@@ -1,7 +1,7 @@
 use Rattle.std.proofs.Common.{◌≡◌, ◌+◌, ap, sym, ◌∙◌, arith}
 use Rattle.std.proofs.lemmas.Int.{to_z-of_z}
 use Rattle.ak_core.specs.declared.registers.Regs.{Regs}
-use Rattle.ak_model.specs.Instructions.{Reads, Writes, plan, reg_of, rsp, with_reg, moved}
+use Rattle.ak_model.specs.Flat.Instructions.{Reads, Writes, plan, reg_of, rsp, with_reg, moved}
 use Rattle.ak_exec.proofs.Lines.{carried_out}
 use Rattle.ak_exec.proofs.Carrying.{to_le_bytes-8, carries_as}
 use Rattle.ak_exec.proofs.interpreter.perform.Goals as goal

@@ -1,8 +1,8 @@
 use Rattle.std.proofs.Common.{◌≡◌, ◌+◌, ◌*◌, ◌≤◌, length}
 use lib.Seq.{paste}
 use Rattle.ak_core.specs.Layout.{Layout}
-use Rattle.ak_model.specs.Pages.{pages}
-use Rattle.ak_model.specs.Flat.{Flat}
+use Rattle.ak_model.specs.Paging.Pages.{pages}
+use Rattle.ak_model.specs.Flat.FlatRuns.{Flat}
 use Rattle.ak_exec.specs.Turns.{KeepsUnwritten, Shows}
 use Rattle.ak_exec.proofs.operands.store_bytes.Given as goal
 

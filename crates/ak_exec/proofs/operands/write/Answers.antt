@@ -1,5 +1,5 @@
 use Rattle.std.proofs.Common.{◌≡◌, ℕ, ◌-◌, subst, arith}
-use Rattle.ak_model.specs.Flat.{overwrite}
+use Rattle.ak_model.specs.Flat.FlatRuns.{overwrite}
 use Rattle.ak_exec.specs.Turns.{Shows}
 use Rattle.ak_exec.proofs.Paged.{shows_same}
 use Rattle.ak_exec.proofs.operands.write.Goals as goal

@@ -1,6 +1,6 @@
 use Rattle.std.proofs.Common.{◌≡◌, ℕ, refl, ap, sym, ◌∙◌}
-use Rattle.ak_model.specs.Instructions.{with_reg, le_value}
-use Rattle.ak_model.specs.Flat.{Flat, bytes_at}
+use Rattle.ak_model.specs.Flat.Instructions.{with_reg, le_value}
+use Rattle.ak_model.specs.Flat.FlatRuns.{Flat, bytes_at}
 use Rattle.ak_exec.proofs.Paged.{shows_same}
 use Rattle.ak_exec.proofs.Carrying.{completes, ends_before, from_le_bytes-8}
 use Rattle.ak_exec.proofs.transfers.load.Goals as goal

@@ -1,5 +1,5 @@
 use Rattle.std.proofs.Common.{ap, ◌∙◌}
-use Rattle.ak_model.specs.Instructions.{Writes, le_bytes, minus, reg_of, rsp, with_reg}
+use Rattle.ak_model.specs.Flat.Instructions.{Writes, le_bytes, minus, reg_of, rsp, with_reg}
 use Rattle.ak_exec.proofs.Carrying.{to_le_bytes-8, carries_as}
 use Rattle.ak_exec.proofs.transfers.push.Goals as goal
 

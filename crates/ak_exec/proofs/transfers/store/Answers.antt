@@ -1,5 +1,5 @@
 use Rattle.std.proofs.Common.{refl, sym, ◌-◌}
-use Rattle.ak_model.specs.Flat.{Flat, overwrite}
+use Rattle.ak_model.specs.Flat.FlatRuns.{Flat, overwrite}
 use Rattle.ak_exec.proofs.Paged.{shows_same}
 use Rattle.ak_exec.proofs.Carrying.{completes, ends_before}
 use Rattle.ak_exec.proofs.transfers.store.Goals as goal

@@ -2,7 +2,7 @@ use Rattle.std.proofs.Common.{◌≡◌, ◌∙◌, ℕ, ◌+◌, length, ap, sy
 use Rattle.std.specs.Prelude.{Vec}
 use Rattle.std.specs.declared.alloc.Global.{Global}
 use Rattle.ak_image.specs.Built.{page_bytes}
-use Rattle.ak_model.specs.Build.{held_at_build}
+use Rattle.ak_model.specs.Paging.Build.{held_at_build}
 use Rattle.ak_machine.specs.Memory.{Frames, IsWhole}
 use Rattle.ak_machine.specs.Built.{FillsEach, bytes_held, page_held}
 use Rattle.ak_machine.proofs.Filling.{whole-none, whole-push, fills_more}

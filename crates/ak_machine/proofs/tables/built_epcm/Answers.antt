@@ -2,7 +2,7 @@ use Rattle.std.proofs.Common.{◌≡◌, ◌∙◌, ◌+◌, ◌<◌, ℕ, List,
 use Rattle.std.proofs.lemmas.List.{length-replicate}
 use Rattle.std.proofs.Math.ListN.{length-set}
 use Rattle.ak_core.specs.declared.page.Entry.{Entry}
-use Rattle.ak_model.specs.Pages.{pages}
+use Rattle.ak_model.specs.Paging.Pages.{pages}
 use Rattle.ak_epcm.specs.Entries.{free_entry}
 use Rattle.ak_machine.proofs.Filling.{FirstEntries, entries_none, entries_more, entries_fresh, entries_all}
 use Rattle.ak_machine.proofs.tables.built_epcm.Goals as goal

@@ -1,5 +1,5 @@
 use Rattle.std.proofs.Common.{◌≡◌, length}
-use Rattle.ak_model.specs.Pages.{all_pages}
+use Rattle.ak_model.specs.Paging.Pages.{all_pages}
 use Rattle.ak_machine.specs.Built.{MapsEach}
 use Rattle.ak_machine.proofs.tables.built_table.Given as goal
 

@@ -1,5 +1,5 @@
 use Rattle.std.proofs.Common.{◌≡◌, ◌∙◌, ◌+◌, ap}
-use Rattle.ak_model.specs.Flat.{zeroed}
+use Rattle.ak_model.specs.Flat.FlatRuns.{zeroed}
 use Rattle.ak_machine.specs.declared.activity.Stage.{Stage}
 use Rattle.ak_machine.specs.declared.activity.Activity.{Activity}
 use Rattle.ak_machine.specs.declared.notes.Turned.{Turned}

@@ -3,8 +3,8 @@ use Rattle.std.specs.Prelude.{Vec, None, true, nat_lt}
 use Rattle.std.specs.declared.alloc.Global.{Global}
 use Rattle.ak_core.specs.Layout.{Layout, IsValid}
 use Rattle.ak_core.specs.declared.page.Entry.{Entry}
-use Rattle.ak_model.specs.Pages.{all_pages}
-use Rattle.ak_model.specs.Build.{held_at_build}
+use Rattle.ak_model.specs.Paging.Pages.{all_pages}
+use Rattle.ak_model.specs.Paging.Build.{held_at_build}
 use Rattle.ak_epcm.specs.Entries.{entry_at}
 use Rattle.ak_pte.specs.declared.table.Pte.{Pte}
 use Rattle.ak_walk.specs.Agrees.{EntryAgrees}

@@ -1,7 +1,7 @@
 use Rattle.std.proofs.Common.{◌≡◌, ◌∙◌, ℕ, ◌+◌, ◌-◌, Bool, true, List, ap, subst, sym, arith}
 use Rattle.std.specs.Prelude.{Some, None}
 use Rattle.std.specs.List.{list_all}
-use Rattle.ak_core.specs.Mem.{Touch}
+use Rattle.ak_core.specs.Mem.{Access}
 use Rattle.ak_core.specs.declared.event.Event.{Event}
 use Rattle.ak_core.specs.declared.moves.Exit.{Exit}
 use Rattle.ak_machine.specs.declared.activity.Stage.{Stage}
@@ -10,7 +10,7 @@ use Rattle.ak_machine.specs.Memory.{is_held, finds, tables_of, bytes_of, length-
 use Rattle.ak_machine.specs.State.{State, state_of}
 use Rattle.ak_machine.specs.Faults.{fault_event}
 use Rattle.ak_machine.specs.Moves.{DoesTurn}
-use Rattle.ak_model.specs.Flat.{Next, Call}
+use Rattle.ak_model.specs.Flat.FlatRuns.{Next, Call}
 use Rattle.ak_exec.specs.Turns.{Shows}
 use Rattle.ak_machine.proofs.Kept.{kept_whole}
 use Rattle.ak_machine.proofs.Refused.{vector_other}
@@ -91,7 +91,7 @@ returns-in-Trapped-clause-note c = λ flat regs shows.
     let before : Shows m.layout (is_held m.memory.epcm) (bytes_of m.memory.frames.items m.memory.epcm) flat =
     subst B c.in-Trapped.ensures.same_bytes (subst H c.in-Trapped.ensures.holds shows) in
     let raises = c.in-Trapped.ensures.line flat (regs ∙ c.in-Trapped.ensures.same_registers) before in
-    let F : List Touch → Type 0 = λ touches. list_all (finds (tables_of n.table n.epcm)) touches ≡ true in
+    let F : List Access → Type 0 = λ accesses. list_all (finds (tables_of n.table n.epcm)) accesses ≡ true in
     record { found = subst F raises.all n.found; ends = raises.ends }
 
 pub returns-in-Done-clause-kept : goal.returns-in-Done-clause-kept

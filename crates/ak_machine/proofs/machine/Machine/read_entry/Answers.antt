@@ -1,6 +1,6 @@
 use Rattle.std.proofs.Common.{◌≡◌, ◌<◌, ◌≤◌, length, ap, arith}
 use Rattle.std.proofs.lemmas.Option.{get_or_from_slice_get}
-use Rattle.ak_model.specs.Pages.{pages}
+use Rattle.ak_model.specs.Paging.Pages.{pages}
 use Rattle.ak_pte.specs.Table.{unmapped}
 use Rattle.ak_pte.specs.declared.table.Pte.{Pte}
 use Rattle.ak_machine.specs.Memory.{pte_at}

@@ -2,7 +2,7 @@ use Rattle.std.proofs.Common.{◌≡◌, ◌∙◌, ◌+◌, ◌≤◌, ap, sym,
 use Rattle.std.specs.Prelude.{is_some, not}
 use Rattle.ak_core.specs.Layout.{Layout}
 use Rattle.ak_core.specs.Journal.{with_more}
-use Rattle.ak_model.specs.Pages.{pages}
+use Rattle.ak_model.specs.Paging.Pages.{pages}
 use Rattle.ak_machine.specs.declared.notes.ProgramNote.{ProgramNote}
 use Rattle.ak_machine.specs.State.{state_of}
 use Rattle.ak_machine.specs.Stands.{Stands}

@@ -1,7 +1,7 @@
 use Rattle.std.proofs.Common.{◌≡◌, ℕ, ◌+◌, ◌≤◌, ◌<◌, List, true, false}
 use Rattle.std.specs.Prelude.{None}
 use Rattle.ak_core.specs.declared.event.Event.{Event}
-use Rattle.ak_model.specs.History.{History}
+use Rattle.ak_model.specs.Paging.Histories.{History}
 use Rattle.ak_machine.specs.declared.notes.ProgramNote.{ProgramNote}
 use Rattle.ak_machine.specs.declared.notes.RuntimeNote.{RuntimeNote}
 use Rattle.ak_machine.specs.State.{state_of}

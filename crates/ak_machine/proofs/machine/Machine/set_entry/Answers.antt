@@ -3,7 +3,7 @@ use Rattle.std.specs.Prelude.{None}
 use Rattle.ak_core.specs.declared.moves.Move.{Move}
 use Rattle.ak_core.specs.declared.moves.Answer.{Answer}
 use Rattle.ak_core.specs.declared.page.Entry.{Entry}
-use Rattle.ak_model.specs.Pages.{pages}
+use Rattle.ak_model.specs.Paging.Pages.{pages}
 use Rattle.ak_pte.specs.declared.table.Pte.{Pte}
 use Rattle.ak_machine.specs.Memory.{Frames, tables_of, bytes_of}
 use Rattle.ak_machine.specs.State.{State, state_of}

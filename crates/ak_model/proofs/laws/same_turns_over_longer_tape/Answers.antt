@@ -1,5 +1,0 @@
-use Rattle.ak_model.proofs.TurnCuts.{turns-append}
-use Rattle.ak_model.proofs.laws.same_turns_over_longer_tape.Goals as goal
-
-pub returns : goal.returns
-returns c layout tape more moves h = turns-append layout more tape moves h

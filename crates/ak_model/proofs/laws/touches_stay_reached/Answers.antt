@@ -1,5 +1,0 @@
-use Rattle.ak_model.proofs.Comes.{stay-reached}
-use Rattle.ak_model.proofs.laws.touches_stay_reached.Goals as goal
-
-pub returns : goal.returns
-returns c image layout journal more flat reached = stay-reached image layout journal flat more reached

@@ -1,5 +1,0 @@
-use Rattle.ak_model.proofs.Refusals.{change-refused, control_after-refused}
-use Rattle.ak_model.proofs.laws_history.refusals_change_nothing.Goals as goal
-
-pub returns : goal.returns
-returns c = record { history = change-refused; control = control_after-refused }

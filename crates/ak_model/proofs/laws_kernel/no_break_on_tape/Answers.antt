@@ -1,9 +1,0 @@
-use Rattle.ak_model.proofs.UnbrokenTape.{journal-unbroken, journal-unstopped, journal-unshown}
-use Rattle.ak_model.proofs.laws_kernel.no_break_on_tape.Goals as goal
-
-pub returns : goal.returns
-returns c = record {
-  unbroken = λ image layout journal sound kept. journal-unbroken image layout journal sound kept;
-  unstopped = λ image layout journal sound kept. journal-unstopped image layout journal sound kept;
-  unseen = λ image layout journal sound kept. journal-unshown image layout journal sound kept;
-}

@@ -1,5 +1,0 @@
-use Rattle.ak_model.proofs.ClusterSizes.{size_is, sizes_sum}
-use Rattle.ak_model.proofs.laws_queue.sizes.Goals as goal
-
-pub returns : goal.returns
-returns c = record { each = size_is; all = sizes_sum }

@@ -1,0 +1,19 @@
+-- The words of the laws, which no definition needs.
+pub mod MissedClusters
+pub mod Premises
+pub mod Waiting
+pub mod StepRows
+pub mod Presence
+pub mod Orderly
+pub mod IdealMisses
+pub mod ToldFault
+pub mod ViolatedRule
+pub use MissedClusters.*
+pub use Premises.*
+pub use Waiting.*
+pub use StepRows.*
+pub use Presence.*
+pub use Orderly.*
+pub use IdealMisses.*
+pub use ToldFault.*
+pub use ViolatedRule.*

@@ -1,0 +1,21 @@
+-- Pages and frames, the build, the history of moves and what it says of frames, handles, the page table and tracking; walks.
+pub mod Pages
+pub mod Holdings
+pub mod Build
+pub mod Histories
+pub mod Frames
+pub mod Handles
+pub mod PageTable
+pub mod Inside
+pub mod Tracking
+pub mod Walk
+pub use Pages.*
+pub use Holdings.*
+pub use Build.*
+pub use Histories.*
+pub use Frames.*
+pub use Handles.*
+pub use PageTable.*
+pub use Inside.*
+pub use Tracking.*
+pub use Walk.*

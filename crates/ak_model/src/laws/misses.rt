@@ -1,0 +1,85 @@
+// Laws on what is reached, what may fault, and how few misses there are.
+ghost use Rattle.ak_core.specs.Mem.{Access};
+ghost use Rattle.ak_model.specs.Control.{turn};
+ghost use Rattle.ak_model.specs.Flat.{flat_run, is_forbidden};
+ghost use Rattle.ak_model.specs.Laws.{IsDistinct, MissesFit, QueueFits, misses_at};
+ghost use Rattle.ak_model.specs.Misses.{ComesTo, MayComplete, MayFault, accesses_at, accesses_of};
+ghost use Rattle.ak_model.specs.Paging.{access_walkable, inside, queue_at_build};
+ghost use Rattle.ak_model.specs.Sound.{AccessesAreReached, BreakIsForced, BrokenBy, EachTurn, EventsAreFlat, ReachedBy, Sound, queue_by, turns_of};
+ghost use Rattle.ak_model.specs.Tapes.{FlatRuns, ProgramTurn, last_moment, runs_of};
+ghost use Rattle.std.specs.List.{list_all};
+ghost use Rattle.std.specs.Prelude.{List, false, length, true, ℕ, ◌++◌, ◌+◌, ◌∷◌, ◌≡◌, ◌≤◌};
+ghost use Rattle.ak_core.specs.Journal;
+ghost use Rattle.ak_core.specs.Layout;
+
+/// Where a walk finds each access of a turn, or each before a forbidden one, the turn may complete or trap; and the next
+/// access may fault where no walk finds it.
+pub fn walks_reach()
+    ensures completes { (layout : Layout.Layout) (runs : FlatRuns) (turn : ProgramTurn) (granted : List Access)
+        → inside turn.past turn.lp ≡ true → accesses_at layout runs turn ≡ granted
+        → list_all (access_walkable layout turn.past) granted ≡ true
+        → MayComplete layout runs turn }
+    ensures traps { (layout : Layout.Layout) (runs : FlatRuns) (turn : ProgramTurn) (granted rest : List Access) (t : Access)
+        → inside turn.past turn.lp ≡ true → accesses_at layout runs turn ≡ granted ++ t ∷ rest
+        → list_all (access_walkable layout turn.past) granted ≡ true → is_forbidden layout t ≡ true
+        → MayComplete layout runs turn }
+    ensures faults { (layout : Layout.Layout) (runs : FlatRuns) (turn : ProgramTurn) (granted rest : List Access) (t : Access)
+        → inside turn.past turn.lp ≡ true → accesses_at layout runs turn ≡ granted ++ t ∷ rest
+        → list_all (access_walkable layout turn.past) granted ≡ true
+        → is_forbidden layout t ≡ false → access_walkable layout turn.past t ≡ false
+        → MayFault layout runs turn t }
+{}
+
+/// More answers to calls leave what holds of the turns so far. That a turn may complete is asked of an instruction to
+/// which the flat run came; an access that faults stands in one.
+pub fn more_call_answers_keep_turns()
+    ensures completes { (layout : Layout.Layout) (image answers more : List ℕ) (turn : ProgramTurn)
+        → ComesTo (flat_run layout image answers) turn
+        → MayComplete layout (flat_run layout image answers) turn
+        → MayComplete layout (flat_run layout image (answers ++ more)) turn }
+    ensures faults { (layout : Layout.Layout) (image answers more : List ℕ) (turn : ProgramTurn) (t : Access)
+        → MayFault layout (flat_run layout image answers) turn t
+        → MayFault layout (flat_run layout image (answers ++ more)) turn t }
+    ensures breaks { (layout : Layout.Layout) (image answers more : List ℕ) (turn : ProgramTurn) (older : List ProgramTurn)
+        → BreakIsForced layout (flat_run layout image answers) turn older
+        → BreakIsForced layout (flat_run layout image (answers ++ more)) turn older }
+    ensures each_reached { (layout : Layout.Layout) (image answers more : List ℕ) (turns : List ProgramTurn)
+        → EachTurn (λ turn. λ older. ComesTo (flat_run layout image answers) turn) turns
+        → EachTurn (λ turn. λ older. ReachedBy layout (flat_run layout image answers) turn turn.event) turns
+        → EachTurn (λ turn. λ older. ReachedBy layout (flat_run layout image (answers ++ more)) turn turn.event) turns }
+    ensures each_broken { (layout : Layout.Layout) (image answers more : List ℕ) (turns : List ProgramTurn)
+        → EachTurn (λ turn. λ older. BrokenBy layout (flat_run layout image answers) turn older turn.event) turns
+        → EachTurn (λ turn. λ older. BrokenBy layout (flat_run layout image (answers ++ more)) turn older turn.event) turns }
+{}
+
+/// Where the events agree with the flat run, accesses that were reached stay so with more answers to calls.
+pub fn accesses_stay_reached()
+    ensures { (image : List ℕ) (layout : Layout.Layout) (journal : Journal.Journal) (more : List ℕ)
+        → EventsAreFlat image layout journal → AccessesAreReached image layout journal
+        → EachTurn (λ turn. λ older. ReachedBy layout (flat_run layout image ((last_moment layout journal).control.returned ++ more)) turn turn.event)
+        (turns_of layout journal) }
+{}
+
+/// The misses of a sound journal fit: each is of a cluster that is out by the misses before it.
+pub fn sound_misses_fit()
+    ensures { (image : List ℕ) (layout : Layout.Layout) (journal : Journal.Journal)
+        → Sound image layout journal → MissesFit layout (queue_at_build layout.build layout) journal.events }
+{}
+
+/// At each turn of the program in a sound journal, the clusters that are in by the misses before it are different ones of the
+/// layout, and in a sealed build they fit the budget together.
+pub fn sound_queue_fits()
+    ensures { (image : List ℕ) (layout : Layout.Layout) (journal : Journal.Journal)
+        → Sound image layout journal → EachTurn (λ turn. λ older. QueueFits layout (queue_by layout older)) (turns_of layout journal) }
+{}
+
+/// An instruction of a sound journal misses four clusters at most: none twice, and no more than it makes accesses before the
+/// first forbidden one.
+pub fn few_misses()
+    ensures four { (image : List ℕ) (layout : Layout.Layout) (journal : Journal.Journal) (i : ℕ)
+        → Sound image layout journal → length (misses_at journal.events i) ≤ 4 }
+    ensures once { (image : List ℕ) (layout : Layout.Layout) (journal : Journal.Journal) (i : ℕ)
+        → Sound image layout journal → IsDistinct (misses_at journal.events i) }
+    ensures accesses { (image : List ℕ) (layout : Layout.Layout) (journal : Journal.Journal) (i : ℕ)
+        → Sound image layout journal → length (misses_at journal.events i) ≤ length (accesses_of layout (runs_of layout image journal i)) }
+{}
