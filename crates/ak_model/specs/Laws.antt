@@ -4,6 +4,7 @@ pub mod Premises
 pub mod Waiting
 pub mod StepRows
 pub mod Presence
+pub mod OneLiveCopy
 pub mod Orderly
 pub mod IdealMisses
 pub mod ToldFault
@@ -13,6 +14,7 @@ pub use Premises.*
 pub use Waiting.*
 pub use StepRows.*
 pub use Presence.*
+pub use OneLiveCopy.*
 pub use Orderly.*
 pub use IdealMisses.*
 pub use ToldFault.*

@@ -4,19 +4,7 @@ use Rattle.std.specs.Prelude.{Bool, true, false, ◌&&◌, ◌||◌, if◌then�
 use Rattle.std.proofs.lemmas.Bool.Decides.{nat_tests}
 use Rattle.std.proofs.lemmas.Bool.{or_parts}
 use Rattle.ak_model.specs.Paging.Holdings.{Held, FreeFrame, VaFrame, PageFrame, Place, InFrame, InHandle, Gone}
-
--- what is held, placed, slotted, given, sealed and discarded agrees
-pub record Agrees (held : ℕ → Held) (place : ℕ → Place) (slot : ℕ → ℕ → Option ℕ) (given : ℕ) (page_of : ℕ → ℕ) (discarded : ℕ → Bool) : Type 0 where
-  pub framed : (p f : ℕ) → place p ≡ InFrame f → held f ≡ PageFrame p
-  pub placed : (p f : ℕ) → held f ≡ PageFrame p → place p ≡ InFrame f
-  pub named : (p k : ℕ) → place p ≡ InHandle k → page_of k ≡ p
-  pub known : (p k : ℕ) → place p ≡ InHandle k → k < given
-  pub kept : (p k : ℕ) → place p ≡ InHandle k → discarded k ≡ false
-  pub slotted : (va i k : ℕ) → slot va i ≡ Some k → k < given
-  pub newest : (va i k : ℕ) → slot va i ≡ Some k → discarded k ≡ false → place (page_of k) ≡ InHandle k
-  pub same_va : (va i wa j k : ℕ) → slot va i ≡ Some k → slot wa j ≡ Some k → va ≡ wa
-  pub same_slot : (va i wa j k : ℕ) → slot va i ≡ Some k → slot wa j ≡ Some k → i ≡ j
-  pub gone : (k : ℕ) → discarded k ≡ true → k < given
+use Rattle.ak_model.specs.Laws.OneLiveCopy.{Agrees}
 
 module _ (held : ℕ → Held) (place : ℕ → Place) (slot : ℕ → ℕ → Option ℕ) (given : ℕ) (page_of : ℕ → ℕ) (discarded : ℕ → Bool) (old : Agrees held place slot given page_of discarded) where
   -- a load

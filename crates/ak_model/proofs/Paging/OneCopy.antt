@@ -23,12 +23,10 @@ use Rattle.ak_model.specs.Paging.Tracking.{tracked}
 use Rattle.ak_model.specs.Control.ControlState.{Control}
 use Rattle.ak_model.specs.Control.Answers.{answer, if_frame, if_page, is_slot, write_out_answer, mac_answer, load_answer, va_answer}
 use Rattle.ak_model.specs.Control.Trace.{trace}
+use Rattle.ak_model.specs.Laws.OneLiveCopy.{Agrees, OneCopy}
 use Rattle.ak_model.proofs.Paging.SomeoneInside.{other}
 use Rattle.ak_model.proofs.Paging.ChangesByAnswer.{ok_holds, handle_holds, exit_holds}
-use Rattle.ak_model.proofs.Paging.LiveCopies.{Agrees, loads, writes_out, removes, frees, makes_va, discards}
-
-abbrev pub OneCopy : Layout → History → Type 0
-OneCopy layout past = Agrees (held layout past) (place layout past) (slot layout past) (given layout past) (page_of layout past) (discarded past)
+use Rattle.ak_model.proofs.Paging.LiveCopies.{loads, writes_out, removes, frees, makes_va, discards}
 
 -- ---- After the build
 

@@ -1,0 +1,20 @@
+-- Lemmas on the leaf instructions of the kernel and its page table.
+pub mod LeafRows
+pub mod ViewStands
+pub mod Concerns
+pub mod WaitingFor
+pub mod OpenFrames
+pub mod Fewer
+pub mod Refused
+pub mod LeafStands
+pub mod SomeLeaves
+pub mod LeafMoves
+pub mod DoneMoves
+pub mod WriteOut
+pub mod WriteOutMoves
+pub mod Loaded
+pub mod LoadMoves
+pub mod BlockedLoads
+pub mod RemoveMoves
+pub mod MakeMoves
+pub mod DiscardMoves

@@ -1,0 +1,77 @@
+-- A load as a move, with a block or without.
+use Rattle.std.proofs.Common.{◌≡◌, ℕ, ◌+◌, [], length, refl, sym, ◌∙◌, subst, inl}
+use Rattle.std.specs.Prelude.{false, not, nat_lt, None, ◌==◌}
+use Rattle.ak_core.specs.Layout.{Layout}
+use Rattle.ak_core.specs.declared.page.Frame.{Frame}
+use Rattle.ak_core.specs.declared.page.Handle.{Handle}
+use Rattle.ak_core.specs.declared.page.Page.{Page}
+use Rattle.ak_core.specs.declared.moves.Move.TheVariants.{Eldu}
+use Rattle.ak_core.specs.declared.moves.Answer.TheVariants.{Ok, InUse, BadVa}
+use Rattle.ak_model.specs.Paging.Histories.{History}
+use Rattle.ak_model.specs.Paging.Holdings.{is_free}
+use Rattle.ak_model.specs.Paging.Frames.{held}
+use Rattle.ak_model.specs.Paging.Handles.{live, page_of, place}
+use Rattle.ak_model.specs.Paging.PageTable.{pte}
+use Rattle.ak_model.specs.Paging.Inside.{since}
+use Rattle.ak_model.specs.Control.ControlState.{control_at_build}
+use Rattle.ak_model.specs.Control.Answers.{load_answer}
+use Rattle.ak_model.proofs.Paging.OneCopy.{load_fair}
+use Rattle.ak_model.proofs.Paging.SomeoneInside.{other}
+use Rattle.ak_relation.specs.State.View.{view_of, has_slot, load_row, leaf_row}
+use Rattle.ak_relation.specs.State.MachineState.{State}
+use Rattle.ak_relation.specs.State.Tables.{SealedPageAgrees, MappingStands, PresenceStands, TablesStand}
+use Rattle.ak_relation.specs.State.MachineView.{view_in}
+use Rattle.ak_relation.specs.Premises.Leaves.{LeafChanges}
+use Rattle.ak_relation.specs.Premises.Loading.{LoadsFrom}
+use Rattle.ak_relation.specs.Relation.Does.{IsMove}
+use Rattle.ak_relation.proofs.Leaves.LeafRows.{answer-leaf}
+use Rattle.ak_relation.proofs.Leaves.OpenFrames.{frame_ok}
+use Rattle.ak_relation.proofs.Leaves.LeafMoves.{leaf_moves}
+use Rattle.ak_relation.proofs.Leaves.WriteOutMoves.{va_if}
+use Rattle.ak_relation.proofs.Leaves.Loaded.{IsFair, other_va, loaded_entry, loaded_slot, loaded_copy, loaded_one, loaded_stamp}
+
+-- the row of a load tells that it is fair
+pub fair_row : (layout : Layout) (past : History) (f k p va i : ℕ) → load_answer layout past f k p va i ≡ Ok → load_row (view_of layout past) f k p va i ≡ Ok → IsFair layout past f k p va i
+fair_row layout past f k p va i answer row =
+    let fair = load_fair layout past f k p va i false answer in
+    let free = other (not (is_free (held layout past f))) InUse _ Ok (λ e. cc) (frame_ok (view_of layout past) f _ Ok (λ e. cc) (λ e. cc) row) in
+    let slotted = other (not (has_slot (view_of layout past) va i)) BadVa _ Ok (λ e. cc) free.1 in
+    record { free = fair.0; in_va = va_if (held layout past va) (nat_lt i 512) slotted.0; version = fair.1; kept = fair.2; page = fair.3 }
+
+module _ (layout : Layout) (old new : State) (f va : Frame) (k : Handle) (p : Page) (i : ℕ) where
+  eldu_changes : (past : History) → TablesStand layout past old → LoadsFrom old new f.0 k.0 va.0 i false → IsFair layout past f.0 k.0 p.0 va.0 i → LeafChanges layout past (Eldu f k p va i, Ok) old new
+  eldu_changes past h w fair = record {
+    processors = w.processors;
+    count = w.count;
+    queue = w.queue;
+    copies = λ q. inl (loaded_copy layout past old new f.0 k.0 p.0 va.0 i false h w fair q (place layout past q) (q == p.0) refl refl);
+    tables = record {
+      entries = record { entry = λ g. loaded_entry layout past old new f.0 k.0 p.0 va.0 i false h w fair g (length past + 1) (g == f.0) (w.entry g) };
+      slots = record {
+        versions = λ wa j v lt.
+            let is = other_va (wa == f.0) p.0 (held layout past wa) v in
+            loaded_slot layout past old new f.0 k.0 p.0 va.0 i false h w fair wa j (wa == va.0) (j == i) refl refl is.0 is.1 lt;
+      };
+      sealed_pages = record {
+        sealed_page = λ j. subst (λ all. SealedPageAgrees layout (all j) (live layout past j) (page_of layout past j)) (sym w.sealed_pages) (h.sealed_pages.sealed_page j);
+        numbered = w.next ∙ h.sealed_pages.numbered;
+      };
+      mapping = subst (λ table. MappingStands layout table (pte layout past)) (sym w.table) h.mapping;
+      presence = subst (λ all. PresenceStands all (since past)) (sym w.processors) h.presence;
+      tracking = record {
+        built = h.tracking.built;
+        steps_are = w.track ∙ h.tracking.steps_are;
+        stamped = λ g t e. loaded_stamp layout past old new f.0 k.0 p.0 va.0 i false h w fair g t e;
+      };
+      frames = record { whole = w.whole };
+      one_copy = loaded_one layout past old new f.0 k.0 p.0 va.0 i false h w fair;
+    };
+  }
+
+  -- a load without a block, by its row over the machine's own tables
+  pub eldu_moves : leaf_row (view_in layout old) (Eldu f k p va i) ≡ Ok → LoadsFrom old new f.0 k.0 va.0 i false → IsMove layout old new (Eldu f k p va i) Ok None
+  eldu_moves row w =
+      leaf_moves layout old new (Eldu f k p va i) Ok refl row
+      (λ past tables there.
+      eldu_changes past tables w
+      (fair_row layout past f.0 k.0 p.0 va.0 i (answer-leaf layout past (control_at_build layout []) (Eldu f k p va i) refl ∙ there) there))

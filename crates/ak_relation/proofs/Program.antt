@@ -1,0 +1,16 @@
+-- Lemmas on turns of the program that complete an instruction.
+pub mod Calls
+pub mod CallTurns
+pub mod Granted
+pub mod LongerTurns
+pub mod Seen
+pub mod WalkedFills
+pub mod AwayPages
+pub mod Completing
+pub mod Staying
+pub mod OrdinaryTurns
+pub mod ComputedTurns
+pub mod ProgramTurns
+pub mod CalledTurn
+pub mod CalledStands
+pub mod CallMoves

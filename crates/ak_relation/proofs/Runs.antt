@@ -1,0 +1,7 @@
+-- Lemmas on runs, on processors outside, and on the build.
+pub mod Composing
+pub mod RunMoves
+pub mod StillMoves
+pub mod WholeRuns
+pub mod OutsideMoves
+pub mod BuiltStands

@@ -1,0 +1,21 @@
+-- Lemmas on the runtime's turns.
+pub mod Allowed
+pub mod CallAnswers
+pub mod StepTurns
+pub mod StepLaws
+pub mod Cases
+pub mod GoneOn
+pub mod GoneOut
+pub mod RowPages
+pub mod RowTurns
+pub mod RowsBegin
+pub mod RowsLeave
+pub mod RowsProbe
+pub mod RowsSaved
+pub mod Guards
+pub mod EntryCases
+pub mod StepCases
+pub mod Faulted
+pub mod FrameWrites
+pub mod RuntimeTurns
+pub mod ValidTurns

@@ -1,0 +1,6 @@
+-- What the bytes of pages and saved frames say.
+pub mod SavedFrames
+pub mod SavedRegisters
+pub mod FramesFit
+pub mod Contexts
+pub mod Pages

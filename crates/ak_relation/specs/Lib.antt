@@ -1,0 +1,5 @@
+pub mod State
+pub mod Bytes
+pub mod Program
+pub mod Relation
+pub mod Premises

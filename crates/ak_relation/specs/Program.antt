@@ -1,0 +1,7 @@
+-- Where the program is, what it sees, and what stands of its turns.
+pub mod FlatPlaces
+pub mod FlatFits
+pub mod Calls
+pub mod Turns
+pub mod Reaching
+pub mod Seeing

@@ -1,0 +1,64 @@
+-- Where the program's flat run is, by the control state: at its next instruction, or after a call whose answer is missing.
+use Rattle.std.specs.Prelude.{◌≡◌, ◌⊎◌, ℕ, suc, List, [], ◌∷◌, Option, Some}
+use Rattle.ak_core.specs.Layout.{Layout}
+use Rattle.ak_model.specs.Flat.FlatRuns.{Flat, End, ending, flat_run}
+use Rattle.ak_model.specs.Control.ControlState.{Phase, Running, Calling, Ended, Dead, Context, Leave, Saved, Control}
+
+-- ---- Whether a call waits for its answer
+
+-- no call does, one does, or either may be
+pub data Owing : Type 0 where
+  Settled : Owing
+  Owed : Owing
+  Unknown : Owing
+
+-- the oldest context: the one that was saved first, or else the one inside
+abbrev pub oldest : List Saved → Option Context → Option Context
+oldest [] now = now
+oldest (saved ∷ []) now = Some saved.context
+oldest (saved ∷ next ∷ older) now = oldest (next ∷ older) now
+
+-- a program that runs owes an answer where its call is about to leave
+abbrev pub owing_running : Option Context → Owing
+owing_running (Some (Leave b a)) = Owed
+owing_running _ = Settled
+
+-- by the phase, and the oldest context
+abbrev pub owing_by : Phase → Option Context → Owing
+owing_by Calling context = Owed
+owing_by (Ended s) context = Owed
+owing_by Dead context = Unknown
+owing_by Running context = owing_running context
+owing_by _ context = Settled
+
+-- a control state
+abbrev pub owing : Control → Owing
+owing control = owing_by control.phase (oldest control.stack control.now)
+
+-- ---- The place in the flat run
+
+-- the flat run came to this state, and has used all values
+abbrev pub Reaches : Layout → List ℕ → List ℕ → ℕ → Flat → Type 0
+Reaches layout image returned count flat =
+    flat_run layout image returned count ≡ Some (record { flat = flat; answers = [] })
+
+-- the last instruction was a call, whose answer is missing
+pub record IsAfterCall (layout : Layout) (image returned : List ℕ) (count : ℕ) (flat : Flat) : Type 0 where
+  pub before : ℕ
+  pub caller : Flat
+  pub number : ℕ
+  pub argument : ℕ
+  pub count_is : count ≡ suc before
+  pub reached : Reaches layout image returned before caller
+  pub called : ending layout caller ≡ End.Call number argument flat
+
+-- the flat state, where an answer is owed or not
+abbrev pub IsAtBy : Owing → Layout → List ℕ → List ℕ → ℕ → Flat → Type 0
+IsAtBy Settled layout image returned count flat = Reaches layout image returned count flat
+IsAtBy Owed layout image returned count flat = IsAfterCall layout image returned count flat
+IsAtBy Unknown layout image returned count flat =
+    Reaches layout image returned count flat ⊎ IsAfterCall layout image returned count flat
+
+-- the program is at this flat state
+abbrev pub IsAt : Layout → List ℕ → Control → Flat → Type 0
+IsAt layout image control flat = IsAtBy (owing control) layout image control.returned control.count flat

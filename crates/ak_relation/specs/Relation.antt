@@ -1,0 +1,4 @@
+-- The relation at a moment of a trace, and the steps from one moment to another.
+pub mod Stands
+pub mod Does
+pub mod TurnByTurn

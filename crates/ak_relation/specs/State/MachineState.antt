@@ -1,0 +1,54 @@
+-- What the relation sees of a machine: its tables, sealed pages, bytes and processors, as plain values.
+use Rattle.std.specs.Prelude.{ℕ, Bool, List, Option, Some, None, option_map}
+use Rattle.ak_core.specs.Mem.{Access}
+use Rattle.ak_core.specs.declared.page.Entry.{Entry}
+use Rattle.ak_core.specs.declared.page.PageType.{PageType}
+use Rattle.ak_core.specs.declared.registers.Regs.{Regs}
+use Rattle.ak_model.specs.Paging.Holdings.{Place, InFrame, InHandle, Gone, Mapping}
+use Rattle.ak_relation.specs.State.TrackSteps.{TrackStep}
+
+-- a sealed page: what its frame's entry said, and its bytes
+pub record SealedPage : Type 0 where
+  pub kind : PageType
+  pub page : ℕ
+  pub r : Bool
+  pub w : Bool
+  pub x : Bool
+  pub bytes : List ℕ
+
+-- a translation that a walk found, and that was cached
+pub record Fill : Type 0 where
+  pub access : Access
+  pub frame : ℕ
+
+-- a logical processor
+pub record Processor : Type 0 where
+  pub inside : Bool
+  pub regs : Regs
+  pub tcs : ℕ  -- the frame of the TCS by which it entered
+  pub ssa : ℕ  -- the frame of the area into which it would be saved
+  pub fills : List Fill  -- what was cached since the last flush, the newest first
+
+-- a machine
+pub record State : Type 0 where
+  pub entries : List Entry  -- the EPCM
+  pub stamps : ℕ → ℕ  -- of each blocked frame, how many tracking steps stood before
+  pub track : List TrackStep  -- the steps that tracking stands for, the newest first
+  pub frames : ℕ → List ℕ  -- the bytes of each frame
+  pub sealed_pages : ℕ → Option SealedPage  -- the sealed page of each live handle
+  pub next : ℕ  -- the next handle
+  pub table : ℕ → Mapping  -- the page table
+  pub processors : ℕ → Processor
+  pub count : ℕ  -- the program's completed instructions
+  pub queue : List ℕ  -- the clusters that are in by the misses so far
+
+-- the bytes of a place, if it has any
+abbrev pub copy : State → Place → Option (List ℕ)
+copy state (InFrame f) = Some (state.frames f)
+copy state (InHandle k) = option_map (λ sealed_page. sealed_page.bytes) (state.sealed_pages k)
+copy state Gone = None
+
+-- this holds of the bytes, where there are any
+abbrev pub OfCopy : Option (List ℕ) → (List ℕ → Type 0) → Type 0
+OfCopy None holds = Unit {0}
+OfCopy (Some bytes) holds = holds bytes

@@ -1,0 +1,9 @@
+// Laws on the relation, a module for each subject.
+
+pub mod built;
+pub mod definitions;
+pub mod entering;
+pub mod leaves;
+pub mod program;
+pub mod runs;
+pub mod runtime;
