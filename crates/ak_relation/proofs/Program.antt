@@ -3,7 +3,9 @@ pub mod Calls
 pub mod CallTurns
 pub mod Granted
 pub mod LongerTurns
+pub mod TurnWords
 pub mod Seen
+pub mod OwnWords
 pub mod WalkedFills
 pub mod AwayPages
 pub mod Completing

@@ -2,6 +2,7 @@
 pub mod FlatPlaces
 pub mod FlatFits
 pub mod Calls
+pub mod Inputs
 pub mod Turns
 pub mod Reaching
 pub mod Seeing

@@ -1,5 +1,5 @@
 -- Entering and resuming as moves, each by its row over the machine's own tables, done or refused.
-use Rattle.std.proofs.Common.{◌≡◌, ℕ, ◌-◌, List, [], ◌∷◌, length, refl, ap, sym, ◌∙◌, subst, arith}
+use Rattle.std.proofs.Common.{◌≡◌, ℕ, ◌<◌, ◌^◌, ◌-◌, List, [], ◌∷◌, length, refl, ap, sym, ◌∙◌, subst, arith}
 use Rattle.std.specs.Prelude.{true, false, Some, None, ◌==◌}
 use Rattle.ak_core.specs.Layout.{Layout}
 use Rattle.ak_core.specs.declared.page.Lp.{Lp}
@@ -35,8 +35,8 @@ module _ (layout : Layout) (walks : entering_walks layout.build ≡ true) (old :
   -- ---- Entering
 
   -- an entering that its row answers Ok
-  pub enter_moves : (new : State) (v : ℕ) → enter_row layout old lp.0 ≡ Ok → EntersAt layout lp.0 (saved_in layout old) v old new → IsMove layout old new (Eenter lp v) Ok None
-  enter_moves new v row e image past control turns h =
+  pub enter_moves : (new : State) (v : ℕ) → v < 2 ^ 64 → enter_row layout old lp.0 ≡ Ok → EntersAt layout lp.0 (saved_in layout old) v old new → IsMove layout old new (Eenter lp v) Ok None
+  enter_moves new v word row e image past control turns h =
       let ok : enter_answer layout past control lp.0 ≡ Ok = sym (enter_row-answer layout image past control turns old lp.0 h walks) ∙ row in
       let found = enter_found layout past control lp.0 walks ok in
       let tcs = tcs_told layout image past control turns old lp.0 h walks found.tcs in
@@ -50,7 +50,7 @@ module _ (layout : Layout) (walks : entering_walks layout.build ≡ true) (old :
           due = λ later later_ok. later_ok;
         };
         told = refl;
-        stands = entered_stands layout image past control turns old new lp v h walks ok (subst (λ n. EntersAt layout lp.0 n v old new) tcs.saved_is e);
+        stands = entered_stands layout image past control turns old new lp v h walks ok (subst (λ n. EntersAt layout lp.0 n v old new) tcs.saved_is e) word;
       }
 
   -- an entering that is refused

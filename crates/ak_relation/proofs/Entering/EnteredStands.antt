@@ -1,5 +1,5 @@
 -- The relation after an entering.
-use Rattle.std.proofs.Common.{◌≡◌, ℕ, suc, ◌+◌, ◌*◌, ◌-◌, List, [], ◌∷◌, length, drop, refl, ap, sym, ◌∙◌, subst, arith}
+use Rattle.std.proofs.Common.{◌≡◌, ℕ, suc, ◌<◌, ◌^◌, ◌+◌, ◌*◌, ◌-◌, List, [], ◌∷◌, length, drop, refl, ap, sym, ◌∙◌, subst, arith}
 use Rattle.std.proofs.lemmas.Bool.{eqb-true, lt-ltb}
 use Rattle.std.proofs.lemmas.Bool.Decides.{nat_tests}
 use Rattle.std.specs.Prelude.{Bool, true, false, ◌||◌, not, nat_lt, unwrap_or, Some, is_some, ◌==◌, if◌then◌else◌}
@@ -7,7 +7,7 @@ use Rattle.ak_core.specs.Layout.{Layout}
 use Rattle.ak_core.specs.declared.page.Lp.{Lp}
 use Rattle.ak_core.specs.declared.page.Kind.TheVariants.{Write}
 use Rattle.ak_core.specs.declared.moves.Move.TheVariants.{Eenter}
-use Rattle.ak_core.specs.declared.moves.Answer.TheVariants.{Ok}
+use Rattle.ak_core.specs.declared.moves.Answer.TheVariants.{Ok, Gp}
 use Rattle.ak_model.specs.Paging.Pages.{tcs_page, ssa_page}
 use Rattle.ak_model.specs.Paging.Build.{entering_walks}
 use Rattle.ak_model.specs.Paging.Histories.{History, first}
@@ -26,7 +26,8 @@ use Rattle.ak_model.specs.Laws.Orderly.{is_live}
 use Rattle.ak_model.specs.Misses.Reached.{entered_at}
 use Rattle.ak_model.specs.Misses.KeptTranslations.{is_among}
 use Rattle.ak_model.proofs.Control.OrderlyMoves.{enter_fits}
-use Rattle.ak_model.proofs.Control.OneInside.{enter_after}
+use Rattle.ak_model.proofs.Control.OneInside.{enters}
+use Rattle.ak_model.proofs.Paging.SomeoneInside.{other, outside_ok}
 use Rattle.ak_relation.specs.Bytes.SavedFrames.{number_at}
 use Rattle.ak_relation.specs.State.TrackSteps.{EntersBy}
 use Rattle.ak_relation.specs.State.MachineState.{State}
@@ -40,6 +41,7 @@ use Rattle.ak_relation.specs.Premises.Entering.{EntersAt}
 use Rattle.ak_relation.specs.Relation.Does.{at_moment}
 use Rattle.ak_relation.proofs.Program.Calls.{other_now}
 use Rattle.ak_relation.proofs.Program.CallTurns.{entered-answered}
+use Rattle.ak_relation.proofs.Program.TurnWords.{inputs_with}
 use Rattle.ak_relation.proofs.Program.Granted.{granted-none}
 use Rattle.ak_relation.proofs.Leaves.LeafStands.{earlier_more}
 use Rattle.ak_relation.proofs.Leaves.OpenFrames.{known-present}
@@ -47,7 +49,7 @@ use Rattle.ak_relation.proofs.Entering.EnteredPages.{last_entered, found, empty_
 
 module _ (layout : Layout) (image : List ℕ) (past : History) (control : Control) (turns : List ProgramTurn) (old new : State) (lp : Lp) (v : ℕ)
     (h : Stands layout image (at_moment past control turns old)) (walks : entering_walks layout.build ≡ true)
-    (ok : enter_answer layout past control lp.0 ≡ Ok) (e : EntersAt layout lp.0 (cssa control) v old new) where
+    (ok : enter_answer layout past control lp.0 ≡ Ok) (e : EntersAt layout lp.0 (cssa control) v old new) (word : v < 2 ^ 64) where
   -- the history after the entering
   abbrev here : History
   here = (Eenter lp v, Ok) ∷ past
@@ -57,9 +59,11 @@ module _ (layout : Layout) (image : List ℕ) (past : History) (control : Contro
 
   laws : LawsStand layout here (entered control v) turns
   laws =
-      let p = enter_after layout past control low (record { alone = h.laws.present.alone; context = h.laws.present.context; someone_is = h.laws.present.someone }) lp.0 v Ok (sym ok) in
+      let out = outside_ok layout past lp.0 _ ok in
+      let full = (other (cssa control == 3) Gp _ Ok (λ x. cc) out.2).0 in
+      let p = enters layout past control low (record { alone = h.laws.present.alone; context = h.laws.present.context; someone_is = h.laws.present.someone }) lp.0 v out.0 out.1 in
       record {
-        orderly = enter_fits layout (queue_by layout turns) past control lp.0 v Ok (sym ok) h.laws.orderly;
+        orderly = enter_fits layout (queue_by layout turns) past control lp.0 v out.0 out.1 full h.laws.orderly;
         present = record { alone = p.alone; context = p.context; someone = p.someone_is };
         fresh = h.laws.fresh;
         taken = h.laws.taken;
@@ -151,6 +155,7 @@ module _ (layout : Layout) (image : List ℕ) (past : History) (control : Contro
   -- the relation after the entering
   pub entered_stands : Stands layout image (at_moment here (entered control v) turns new)
   entered_stands = record {
+    inputs = inputs_with layout image control h.inputs (entered control v) (let words = h.inputs.words in record { returned = words.returned; saved = words.saved; now = word });
     tape = h.tape;
     turns = h.turns;
     laws = laws;

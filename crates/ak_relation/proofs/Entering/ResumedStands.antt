@@ -14,19 +14,19 @@ use Rattle.ak_model.specs.Paging.Holdings.{VaFrame, PageFrame}
 use Rattle.ak_model.specs.Paging.Frames.{held, blocked_at}
 use Rattle.ak_model.specs.Paging.Handles.{live, page_of}
 use Rattle.ak_model.specs.Paging.PageTable.{pte}
-use Rattle.ak_model.specs.Paging.Inside.{since, inside, someone_inside}
+use Rattle.ak_model.specs.Paging.Inside.{since, inside}
 use Rattle.ak_model.specs.Paging.Walk.{tcs_walkable, walkable}
 use Rattle.ak_model.specs.Control.ControlState.{Saved, Control}
 use Rattle.ak_model.specs.Control.Entering.{resumed_by}
 use Rattle.ak_model.specs.Control.Answers.{resume_answer}
 use Rattle.ak_model.specs.Tapes.ProgramTurns.{ProgramTurn, turn_at}
 use Rattle.ak_model.specs.Sound.Forced.{queue_by}
-use Rattle.ak_model.specs.Laws.Orderly.{is_live, is_refused, refuses_by, IsOrderly}
-use Rattle.ak_model.specs.Laws.Presence.{IsPresent}
+use Rattle.ak_model.specs.Laws.Orderly.{is_live, is_refused, refuses_by}
 use Rattle.ak_model.specs.Misses.Reached.{entered_at}
 use Rattle.ak_model.specs.Misses.KeptTranslations.{is_among}
 use Rattle.ak_model.proofs.Control.OrderlyMoves.{resume_fits}
-use Rattle.ak_model.proofs.Control.OneInside.{resume_after}
+use Rattle.ak_model.proofs.Control.OneInside.{resumes}
+use Rattle.ak_model.proofs.Paging.SomeoneInside.{outside_ok}
 use Rattle.ak_relation.specs.Bytes.SavedFrames.{number_at}
 use Rattle.ak_relation.specs.State.TrackSteps.{EntersBy}
 use Rattle.ak_relation.specs.State.MachineState.{State}
@@ -39,6 +39,8 @@ use Rattle.ak_relation.specs.Program.Reaching.{AreReached, is_filled, HoldsSince
 use Rattle.ak_relation.specs.Relation.Stands.{runs_at, copies_at, Stands}
 use Rattle.ak_relation.specs.Premises.Resuming.{ResumesAt}
 use Rattle.ak_relation.specs.Relation.Does.{at_moment}
+use Rattle.ak_relation.specs.Program.Inputs.{BringWords}
+use Rattle.ak_relation.proofs.Program.TurnWords.{inputs_with}
 use Rattle.ak_relation.proofs.Program.Calls.{oldest_saved}
 use Rattle.ak_relation.proofs.Program.CallTurns.{resumed-answered}
 use Rattle.ak_relation.proofs.Program.Granted.{granted-none}
@@ -75,10 +77,11 @@ module _ (layout : Layout) (image : List ℕ) (past : History) (control : Contro
 
   laws : LawsStand layout here next turns
   laws =
-      let p = resume_after layout past control low (record { alone = h.laws.present.alone; context = h.laws.present.context; someone_is = h.laws.present.someone }) lp.0 Ok (sym ok) in
+      let out = outside_ok layout past lp.0 _ ok in
+      let p = resumes layout past control low (record { alone = h.laws.present.alone; context = h.laws.present.context; someone_is = h.laws.present.someone }) lp.0 one older out.0 out.1 in
       record {
-        orderly = subst (λ s. IsOrderly layout (queue_by layout turns) (someone_inside layout here) (resumed_by control s)) stacked (resume_fits layout (queue_by layout turns) past control lp.0 Ok (sym ok) h.laws.orderly);
-        present = subst (λ s. IsPresent layout (record { past = here; control = resumed_by control s })) stacked (record { alone = p.alone; context = p.context; someone = p.someone_is });
+        orderly = resume_fits layout (queue_by layout turns) past control lp.0 one older out.0 out.1 f.free stacked h.laws.orderly;
+        present = record { alone = p.alone; context = p.context; someone = p.someone_is };
         fresh = h.laws.fresh;
         taken = h.laws.taken;
         earlier = earlier_more (length past) (length here) turns (omega arith) h.laws.earlier;
@@ -176,6 +179,7 @@ module _ (layout : Layout) (image : List ℕ) (past : History) (control : Contro
   -- the relation after the resuming
   pub resumed_stands : Stands layout image (at_moment here next turns new)
   resumed_stands = record {
+    inputs = inputs_with layout image control h.inputs next (let words = h.inputs.words in let saved = subst BringWords stacked words.saved in record { returned = words.returned; saved = saved.1; now = saved.0 });
     tape = h.tape;
     turns = h.turns;
     laws = laws;

@@ -32,6 +32,8 @@ use Rattle.ak_core.specs.declared.registers.Regs.{Regs}
 use Rattle.ak_model.specs.Sound.Forced.{queue_by}
 use Rattle.ak_model.specs.Laws.Orderly.{after_miss_if, ServedBy}
 use Rattle.ak_relation.proofs.Flat.FlatLaws.{program_form}
+use Rattle.ak_relation.proofs.Program.TurnWords.{inputs_with}
+use Rattle.ak_relation.proofs.Program.OwnWords.{saved_fits}
 use Rattle.ak_relation.proofs.Program.ProgramTurns.{settled_at}
 use Rattle.ak_relation.specs.Relation.Does.{at_moment}
 use Rattle.ak_relation.proofs.Exits.TapeGrows.{tape-event}
@@ -144,6 +146,7 @@ module _ (layout : Layout) (image : List ℕ) (past : History) (control : Contro
   -- the relation after the turn
   pub departed_stands : Stands layout image (at_moment after (departed control reason) more new)
   departed_stands = record {
+    inputs = inputs_with layout image control h.inputs (departed control reason) (let words = h.inputs.words in record { returned = words.returned; saved = (tt, words.saved); now = tt });
     tape = tape-event layout (runs_at layout image control) control.count (events_by turns) event may.at
         (going layout image past control turns old new lp place all event reason cause h is now running nothing s may) may.missed may.forced h.tape;
     turns = (may.turn_stands, h.turns);
@@ -155,7 +158,8 @@ module _ (layout : Layout) (image : List ℕ) (past : History) (control : Contro
       flat = h.bytes.flat;
       program = subst (λ o. IsAtBy o layout image control.returned control.count h.bytes.flat) (sym settled) h.bytes.program;
       pages = pages_after layout past old new lp.0 0 true cause h.tables s its_tcs its_area
-          control.phase control.queue h.bytes.flat control.stack control.pending Program reason none_saved (omega arith) may.noted gives h.bytes.pages;
+          control.phase control.queue h.bytes.flat control.stack control.pending Program reason none_saved (omega arith)
+          (saved_fits layout image past control turns old h lp.0 place is 0 true cause new s) may.noted gives h.bytes.pages;
       registers = record { given = λ q within. tt };
     };
     reached = record {

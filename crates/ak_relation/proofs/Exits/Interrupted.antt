@@ -20,7 +20,7 @@ use Rattle.ak_model.specs.Tapes.ProgramTurns.{ProgramTurn}
 use Rattle.ak_model.specs.Sound.Forced.{queue_by}
 use Rattle.ak_model.specs.Laws.Orderly.{ContextFits, NowFits, IsOrderly, is_live}
 use Rattle.ak_model.proofs.Control.OrderlyMoves.{interrupt_fits}
-use Rattle.ak_model.proofs.Control.OneInside.{interrupt_by}
+use Rattle.ak_model.proofs.Control.OneInside.{interrupts}
 use Rattle.ak_relation.specs.Bytes.SavedFrames.{NoCause, number_at}
 use Rattle.ak_relation.specs.State.TrackSteps.{LeavesBy}
 use Rattle.ak_relation.specs.State.MachineState.{State}
@@ -34,7 +34,10 @@ use Rattle.ak_relation.specs.Relation.Stands.{runs_at, Stands}
 use Rattle.ak_relation.specs.Premises.Saving.{Saves}
 use Rattle.ak_relation.specs.Relation.Does.{at_moment}
 use Rattle.ak_relation.proofs.Program.Calls.{oldest_saved}
+use Rattle.ak_relation.specs.Program.Inputs.{BringsWordNow}
 use Rattle.ak_relation.proofs.Program.CallTurns.{interrupted-answered}
+use Rattle.ak_relation.proofs.Program.TurnWords.{inputs_with}
+use Rattle.ak_relation.proofs.Program.OwnWords.{saved_fits}
 use Rattle.ak_relation.proofs.Leaves.LeafStands.{earlier_more}
 use Rattle.ak_relation.proofs.Leaves.OpenFrames.{known-present}
 use Rattle.ak_relation.proofs.Exits.SavedPages.{pages_after, older_breaks}
@@ -84,9 +87,9 @@ module _ (layout : Layout) (image : List ℕ) (past : History) (control : Contro
 
   laws : LawsStand layout after next turns
   laws =
-      let p = interrupt_by layout past control low (record { alone = h.laws.present.alone; context = h.laws.present.context; someone_is = h.laws.present.someone }) lp.0 true true (ap is_some is) in
+      let p = interrupts layout past control low (record { alone = h.laws.present.alone; context = h.laws.present.context; someone_is = h.laws.present.someone }) lp.0 (ap is_some is) in
       record {
-        orderly = subst (IsOrderly layout (queue_by layout turns) (someone_inside layout after)) by_now (interrupt_fits layout (queue_by layout turns) past control lp.0 Ok h.laws.orderly);
+        orderly = subst (IsOrderly layout (queue_by layout turns) (someone_inside layout after)) by_now (interrupt_fits layout (queue_by layout turns) past control lp.0 h.laws.orderly);
         present = subst (λ c. IsPresent layout (record { past = after; control = c })) by_now (record { alone = p.alone; context = p.context; someone = p.someone_is });
         fresh = h.laws.fresh;
         taken = h.laws.taken;
@@ -149,6 +152,7 @@ module _ (layout : Layout) (image : List ℕ) (past : History) (control : Contro
   -- the relation after the interrupt
   pub interrupted_stands : Stands layout image (at_moment after next turns new)
   interrupted_stands = record {
+    inputs = inputs_with layout image control h.inputs next (let words = h.inputs.words in record { returned = words.returned; saved = (subst BringsWordNow now words.now, words.saved); now = tt });
     tape = h.tape;
     turns = h.turns;
     laws = laws;
@@ -160,7 +164,8 @@ module _ (layout : Layout) (image : List ℕ) (past : History) (control : Contro
       program = subst (λ o. IsAtBy o layout image control.returned control.count h.bytes.flat)
           (ap (λ x. owing_by control.phase (oldest control.stack x)) now ∙ sym (ap (owing_by control.phase) (oldest_saved control.stack context Interrupted))) h.bytes.program;
       pages = pages_after layout past old new lp.0 (length control.stack) control.pending NoCause h.tables s stay.tcs.frame.holds stay.area.frame.holds
-          control.phase control.queue h.bytes.flat control.stack control.pending context Interrupted refl few refl gives h.bytes.pages;
+          control.phase control.queue h.bytes.flat control.stack control.pending context Interrupted refl few
+          (saved_fits layout image past control turns old h lp.0 place is (length control.stack) control.pending NoCause new s) refl gives h.bytes.pages;
       registers = record { given = λ q within. tt };
     };
     reached = record {

@@ -13,6 +13,7 @@ use Rattle.ak_model.specs.Tapes.LastMoment.{FlatRuns}
 use Rattle.ak_model.specs.Tapes.ProgramTurns.{ProgramTurn}
 use Rattle.ak_model.specs.Control.ControlState.{Phase, Context, Reason, Saved}
 use Rattle.ak_relation.specs.Bytes.SavedFrames.{SavedCause}
+use Rattle.ak_relation.specs.Bytes.FramesFit.{FrameFits}
 use Rattle.ak_relation.specs.Bytes.Contexts.{Gives, IsNoted}
 use Rattle.ak_relation.specs.State.MachineState.{State, copy, OfCopy}
 use Rattle.ak_relation.specs.State.Tables.{TablesStand}
@@ -74,10 +75,10 @@ module _ (layout : Layout) (past : History) (old new : State) (lp saved : ℕ) (
 
   -- all pages, with one more saved context on the stack
   pub pages_after : (phase : Phase) (queue : List ℕ) (flat : Flat) (stack : List Saved) (before : Bool) (context : Context) (reason : Reason) → length stack ≡ saved → saved ≤ 2 →
-      IsNoted layout queue context reason cause → Gives layout phase flat context (old.processors lp).regs →
+      FrameFits layout (record { regs = (old.processors lp).regs; cause = cause }) → IsNoted layout queue context reason cause → Gives layout phase flat context (old.processors lp).regs →
       CopiesStand layout phase queue stack before flat (copies_at layout past old) →
       CopiesStand layout phase queue (record { context = context; reason = reason } ∷ stack) pending flat (copies_at layout past new)
-  pages_after phase queue flat stack before context reason size few noted gives k =
+  pages_after phase queue flat stack before context reason size few fits noted gives k =
       let all : length (record { context = context; reason = reason } ∷ stack) ≡ saved + 1 = omega arith in
       record {
         tcs = subst (λ o. OfCopy o (IsTcs (length (record { context = context; reason = reason } ∷ stack)) pending)) (sym tcs_copy)
@@ -85,7 +86,7 @@ module _ (layout : Layout) (past : History) (old new : State) (lp saved : ℕ) (
         areas = (
           subst (λ n. OfCopy (copies_at layout past new (ssa_page layout n)) (IsArea layout phase queue flat (record { context = context; reason = reason }))) (sym size)
               (subst (λ o. OfCopy o (IsArea layout phase queue flat (record { context = context; reason = reason }))) (sym area_copy)
-              (record { frame = record { regs = (old.processors lp).regs; cause = cause }; stored = s.area; fits = s.fits; noted = noted; registers = gives })),
+              (record { frame = record { regs = (old.processors lp).regs; cause = cause }; stored = s.area; fits = fits; noted = noted; registers = gives })),
           older_areas phase queue flat stack (omega arith) k.areas,
         );
         state = subst (λ o. OfCopy o (IsState layout phase queue flat)) (sym (other_copy (state_page layout) (λ e. absurd (omega arith)) (λ e. absurd (omega arith)))) k.state;

@@ -28,6 +28,7 @@ module _ (layout : Layout) (image : List ℕ) (past : History) (control : Contro
   -- where nobody is inside any more, the one is the other
   pub vector_stands : ((q : ℕ) → since faulted q ≡ None) → Stands layout image (at_moment faulted control turns state) → Stands layout image (at_moment raised control turns state)
   vector_stands nobody h = record {
+    inputs = h.inputs;
     tape = h.tape;
     turns = h.turns;
     laws = record {

@@ -16,7 +16,7 @@ use Rattle.ak_core.specs.declared.instruction.Decoded.{Decoded}
 use Rattle.ak_core.specs.declared.instruction.Decoded.TheVariants.{Whole, NeedMore, Illegal}
 use Rattle.ak_model.specs.Paging.Pages.{pages}
 use Rattle.ak_model.specs.Flat.Encodings.{decode}
-use Rattle.ak_model.specs.Flat.Instructions.{Plan, Raises, Computes, Reads, Writes, CallsOut, plan, divide, reg_of, with_reg, shifted, rax, rcx, rdx, rsi, rdi}
+use Rattle.ak_model.specs.Flat.Instructions.{Plan, RaisesVector, Computes, Reads, Writes, CallsOut, plan, divide, reg_of, with_reg, shifted, rax, rcx, rdx, rsi, rdi}
 use Rattle.ak_model.specs.Flat.FlatRuns.{Flat, End, Line, page_at, is_program, is_forbidden, if_operand, carry_out, straddling, rest_of_page, page_bytes, in_first_page, line, ending, FlatRun, after_call, after_ending, one_more, flat_run}
 
 -- as many registers, and the same mode
@@ -40,7 +40,7 @@ form_more regs other i v h = record { size = length-set regs.gpr i v ∙ h.size;
 
 -- what a plan leaves, from these registers
 abbrev PlanFits : Regs → Plan → Type 0
-PlanFits old (Raises v) = Unit {0}
+PlanFits old (RaisesVector v) = Unit {0}
 PlanFits old (Computes regs) = SameForm regs old
 PlanFits old (Reads address count regs) = (v : ℕ) → SameForm (regs v) old
 PlanFits old (Writes address bytes regs) = SameForm regs old
@@ -53,7 +53,7 @@ if_fits old false p q h k = k
 divide_fits : (regs : Regs) (n d : ℕ) → PlanFits regs (divide regs n d)
 divide_fits regs n zero = tt
 divide_fits regs n (suc d) =
-    if_fits regs (nat_lt (n / suc d) (2 ^ 64)) (Computes (with_reg (with_reg regs rax (n / suc d)) rdx (n % suc d))) (Raises 0)
+    if_fits regs (nat_lt (n / suc d) (2 ^ 64)) (Computes (with_reg (with_reg regs rax (n / suc d)) rdx (n % suc d))) (RaisesVector 0)
     (form_more (with_reg regs rax (n / suc d)) regs rdx (n % suc d) (form regs rax (n / suc d))) tt
 
 shifted_fits : (regs : Regs) (rm by result : ℕ) (carry overflow b : Bool) → (by == 0) ≡ b → SameForm (shifted regs rm by result carry overflow) regs
@@ -97,7 +97,7 @@ plan_fits (Push reg) regs = record { size = length-set regs.gpr 4 _; mode = refl
 plan_fits (Pop reg) regs = λ v. form_more (with_reg regs 4 _) regs reg v (form regs 4 _)
 plan_fits Nop regs = record { size = refl; mode = refl }
 plan_fits Undefined regs = tt
-plan_fits Enclu regs = if_fits regs (reg_of regs rax % 2 ^ 32 == 4) (CallsOut (reg_of regs rdi) (reg_of regs rsi) (with_reg regs rcx regs.rip)) (Raises 13) (call_fits regs) tt
+plan_fits Enclu regs = if_fits regs (reg_of regs rax % 2 ^ 32 == 4) (CallsOut (reg_of regs rdi) (reg_of regs rsi) (with_reg regs rcx regs.rip)) (RaisesVector 13) (call_fits regs) tt
 
 -- ---- Lines
 
@@ -117,7 +117,7 @@ module _ (layout : Layout) (old : Flat) where
 
   -- RIP is the next address already
   carry_fits : (accesses : List Access) (size : ℕ) (p : Plan) → PlanFits (record old.regs { rip = old.regs.rip + size }) p → EndFits old (carry_out layout old accesses p).end
-  carry_fits accesses size (Raises v) h = tt
+  carry_fits accesses size (RaisesVector v) h = tt
   carry_fits accesses size (Computes regs) h = record { size = h.size; mode = h.mode }
   carry_fits accesses size (CallsOut b a regs) h = let same = h.0 in (record { size = same.size; mode = same.mode }, h.1, refl)
   carry_fits accesses size (Reads address count regs) h = operand_fits accesses address count Read _ (let same = h _ in record { size = same.size; mode = same.mode })

@@ -10,7 +10,7 @@ use Rattle.std.specs.Prelude.{Bool, true, false, if◌then◌else◌, nat_lt, �
 use Rattle.ak_core.specs.declared.registers.Regs.{Regs}
 use Rattle.ak_core.specs.declared.instruction.Instr.{Instr}
 use Rattle.ak_core.specs.declared.instruction.Instr.TheVariants.{MovImm, MovTo, MovFrom, Store, Load, StoreByte, LoadByte, Add, Sub, And, Or, Xor, Compare, Test, Multiply, ShiftLeft, ShiftRight, Divide, Jump, CallNear, JumpIf, Return, Push, Pop, Nop, Undefined, Enclu}
-use Rattle.ak_model.specs.Flat.Instructions.{Plan, Raises, Computes, Reads, Writes, CallsOut, plan, divide, shifted, reg_of, with_reg, moved, is_met, le_bytes, rax, rcx, rdx, rsp, rsi, rdi}
+use Rattle.ak_model.specs.Flat.Instructions.{Plan, RaisesVector, Computes, Reads, Writes, CallsOut, plan, divide, shifted, reg_of, with_reg, moved, is_met, le_bytes, rax, rcx, rdx, rsp, rsi, rdi}
 use Rattle.ak_relation.specs.Bytes.SavedRegisters.{AreWords, AreRegs}
 use Rattle.ak_relation.specs.Program.FlatFits.{AreBytes}
 use Rattle.ak_relation.proofs.Flat.Immediates.{ImmediateFits}
@@ -58,7 +58,7 @@ moved_word x (negsuc n) = omega arith
 
 -- what a plan leaves is of 64 bits, and what it writes are bytes
 abbrev pub PlanWords : Plan → Type 0
-PlanWords (Raises v) = Unit {0}
+PlanWords (RaisesVector v) = Unit {0}
 PlanWords (Computes regs) = AreRegs regs
 PlanWords (Reads address count regs) = (count ≤ 8) × ((v : ℕ) → v < 256 ^ count → AreRegs (regs v))
 PlanWords (Writes address new regs) = AreBytes new × AreRegs regs
@@ -76,7 +76,7 @@ divide_words : (regs : Regs) (n d : ℕ) → AreRegs regs → d < 2 ^ 64 → Pla
 divide_words regs n zero h lt = tt
 divide_words regs n (suc d) h lt =
     let small : n % suc d < suc d = mod-lt n (omega arith) in
-    if_words (nat_lt (n / suc d) (2 ^ 64)) (Computes (with_reg (with_reg regs rax (n / suc d)) rdx (n % suc d))) (Raises 0)
+    if_words (nat_lt (n / suc d) (2 ^ 64)) (Computes (with_reg (with_reg regs rax (n / suc d)) rdx (n % suc d))) (RaisesVector 0)
     (λ e. set_words (with_reg regs rax (n / suc d)) rdx (n % suc d) (set_words regs rax (n / suc d) h (ltb-true (n / suc d) (2 ^ 64) e)) (omega arith)) tt
 
 either_words : (b : Bool) (r s : Regs) → AreRegs r → AreRegs s → AreRegs (if b then r else s)
@@ -131,4 +131,4 @@ plan_words (Pop reg) regs f h = (omega arith, λ v lt. set_words _ reg v (set_wo
 plan_words Nop regs f h = h
 plan_words Undefined regs f h = tt
 plan_words Enclu regs f h =
-    if_words (reg_of regs rax % 2 ^ 32 == 4) (CallsOut (reg_of regs rdi) (reg_of regs rsi) (with_reg regs rcx regs.rip)) (Raises 13) (λ e. set_words regs rcx regs.rip h h.rip) tt
+    if_words (reg_of regs rax % 2 ^ 32 == 4) (CallsOut (reg_of regs rdi) (reg_of regs rsi) (with_reg regs rcx regs.rip)) (RaisesVector 13) (λ e. set_words regs rcx regs.rip h h.rip) tt

@@ -13,7 +13,7 @@ use Rattle.ak_core.specs.declared.instruction.Instr.{Instr}
 use Rattle.ak_core.specs.declared.instruction.Decoded.{Decoded}
 use Rattle.ak_core.specs.declared.instruction.Decoded.TheVariants.{Whole, NeedMore, Illegal}
 use Rattle.ak_model.specs.Paging.Pages.{pages}
-use Rattle.ak_model.specs.Flat.Instructions.{Plan, Raises, Computes, Reads, Writes, CallsOut, plan, le_value, rax}
+use Rattle.ak_model.specs.Flat.Instructions.{Plan, RaisesVector, Computes, Reads, Writes, CallsOut, plan, le_value, rax}
 use Rattle.ak_model.specs.Flat.Encodings.{decode}
 use Rattle.ak_model.specs.Flat.FlatRuns.{Flat, End, Line, line_of, page_at, is_program, bytes_at, overwrite, if_operand, carry_out, perform, straddling, in_first_page, line, is_forbidden, rest_of_page, page_bytes, ending, FlatRun, after_call, after_ending, one_more, flat_run}
 use Rattle.ak_model.proofs.Flat.Decoding.{decode-size}
@@ -22,7 +22,7 @@ use Rattle.ak_relation.specs.Program.FlatPlaces.{Reaches, IsAfterCall, Owing, Se
 use Rattle.ak_relation.specs.Program.FlatFits.{AreBytes, FlatFits}
 use Rattle.ak_relation.proofs.Flat.Immediates.{decode-fits}
 use Rattle.ak_relation.proofs.Flat.WordPlans.{PlanWords, plan_words, set_words}
-use Rattle.ak_relation.proofs.Runtime.ValidTurns.{room}
+use Rattle.ak_relation.proofs.Flat.Room.{room}
 
 -- the same of an end
 abbrev EndFits : End → Type 0
@@ -66,7 +66,7 @@ module _ (layout : Layout) (valid : IsValid layout) where
   operand_fits accesses address count kind flat false e h = rw e tt
 
   carry_fits : (flat : Flat) (accesses : List Access) (p : Plan) → FlatFits flat → PlanWords p → EndFits (carry_out layout flat accesses p).end
-  carry_fits flat accesses (Raises v) f h = tt
+  carry_fits flat accesses (RaisesVector v) f h = tt
   carry_fits flat accesses (Computes regs) f h = record { words = h; bytes = f.bytes }
   carry_fits flat accesses (CallsOut n a regs) f h = record { words = h; bytes = f.bytes }
   carry_fits flat accesses (Reads address count regs) f h =

@@ -13,7 +13,7 @@ use Rattle.ak_core.specs.declared.instruction.Instr.{Instr}
 use Rattle.ak_core.specs.declared.instruction.Instr.TheVariants.{Store, StoreByte, Divide, CallNear, Push, Enclu}
 use Rattle.ak_model.specs.Paging.Pages.{pages}
 use Rattle.ak_model.specs.Misses.KeptTranslations.{same_access}
-use Rattle.ak_model.specs.Flat.Instructions.{Plan, Raises, Computes, Reads, Writes, CallsOut, plan, divide, reg_of, with_reg, le_value, rax, rcx, rdx, rsi, rdi}
+use Rattle.ak_model.specs.Flat.Instructions.{Plan, RaisesVector, Computes, Reads, Writes, CallsOut, plan, divide, reg_of, with_reg, le_value, rax, rcx, rdx, rsi, rdi}
 use Rattle.ak_model.specs.Flat.FlatRuns.{Flat, Line, page_at, is_program, operand_accesses, bytes_at, overwrite, if_operand, carry_out}
 use Rattle.ak_relation.specs.Program.FlatFits.{Unwritten, EndKeeps}
 
@@ -100,7 +100,7 @@ if_short false p q h k = k
 
 divide_short : (regs : Regs) (n d : ℕ) → IsShort (divide regs n d)
 divide_short regs n zero = tt
-divide_short regs n (suc d) = if_short (nat_lt (n / suc d) (2 ^ 64)) (Computes (with_reg (with_reg regs rax (n / suc d)) rdx (n % suc d))) (Raises 0) tt tt
+divide_short regs n (suc d) = if_short (nat_lt (n / suc d) (2 ^ 64)) (Computes (with_reg (with_reg regs rax (n / suc d)) rdx (n % suc d))) (RaisesVector 0) tt tt
 
 -- every plan
 pub plan_short : (instr : Instr) (regs : Regs) → IsShort (plan instr regs)
@@ -109,7 +109,7 @@ plan_short (StoreByte rm disp reg) regs = (omega arith, omega arith)
 plan_short (CallNear rel) regs = (omega arith, omega arith)
 plan_short (Push reg) regs = (omega arith, omega arith)
 plan_short (Divide rm) regs = divide_short regs (reg_of regs rdx * 2 ^ 64 + reg_of regs rax) (reg_of regs rm)
-plan_short Enclu regs = if_short (reg_of regs rax % 2 ^ 32 == 4) (CallsOut (reg_of regs rdi) (reg_of regs rsi) (with_reg regs rcx regs.rip)) (Raises 13) tt tt
+plan_short Enclu regs = if_short (reg_of regs rax % 2 ^ 32 == 4) (CallsOut (reg_of regs rdi) (reg_of regs rsi) (with_reg regs rcx regs.rip)) (RaisesVector 13) tt tt
 plan_short _ regs = tt
 
 -- ---- Lines
@@ -143,7 +143,7 @@ module _ (layout : Layout) (flat : Flat) (full : 4096 * pages layout ≤ length 
 
   -- a plan carried out
   pub carry_keeps : (accesses : List Access) (p : Plan) → IsShort p → LineKeeps (carry_out layout flat accesses p)
-  carry_keeps accesses (Raises v) h = tt
+  carry_keeps accesses (RaisesVector v) h = tt
   carry_keeps accesses (Computes regs) h = (refl, λ p u. refl)
   carry_keeps accesses (CallsOut n a regs) h = refl
   carry_keeps accesses (Reads address count regs) h = reads_keep accesses address count (regs (le_value (bytes_at layout flat address count))) (is_program layout address count) refl

@@ -64,6 +64,7 @@ module _ (layout : Layout) (image : List ℕ) (past : History) (pair : Pair) (co
   pub leaf_stands : Stands layout image (record { past = past; control = control; turns = turns; state = old }) →
       Stands layout image (record { past = pair ∷ past; control = control; turns = turns; state = new })
   leaf_stands h = record {
+    inputs = h.inputs;
     tape = h.tape;
     turns = h.turns;
     laws = laws h.laws;

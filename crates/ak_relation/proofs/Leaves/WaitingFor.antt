@@ -8,7 +8,7 @@ use Rattle.ak_core.specs.Layout.{Layout}
 use Rattle.ak_model.specs.Paging.Histories.{History, Change, Unchanged, Maps, Blocks, Cycles, WritesOut, Loads, Removes, MakesVa, Discards, Enters, Resumes, Exits, Interrupts, change_of}
 use Rattle.ak_model.specs.Paging.Inside.{since, since_after, inside, processors}
 use Rattle.ak_model.specs.Paging.Tracking.{Cycle, without, cycles, cycles_after, is_over, over_after}
-use Rattle.ak_model.proofs.Paging.SomeoneInside.{any_at}
+use Rattle.ak_model.proofs.Paging.Tests.{any_in_range}
 use Rattle.ak_relation.proofs.Tracking.TrackSteps.{cycles-descend}
 use Rattle.ak_relation.proofs.Tracking.TrackBounds.{AtMost, descend_most}
 
@@ -36,7 +36,7 @@ same_id : (n m : ℕ) → n ≡ m → (n == m) ≡ true
 same_id n m e = grind (arith, nat_tests)
 
 among-processors : (layout : Layout) (lp : ℕ) → lp < layout.lps → among lp (processors layout) ≡ true
-among-processors layout lp lt = any_at (λ q. q == lp) layout.lps 0 lp (omega arith) (omega arith) (same_id lp lp refl)
+among-processors layout lp lt = any_in_range (λ q. q == lp) layout.lps 0 lp (omega arith) (omega arith) (same_id lp lp refl)
 
 -- ---- The cycles since an entering
 

@@ -30,6 +30,7 @@ use Rattle.ak_relation.proofs.Exits.Departing.{turn_with}
 use Rattle.ak_relation.proofs.Flat.FlatLaws.{EndFits}
 use Rattle.ak_relation.proofs.Program.CalledTurn.{called, left, line_is, stay, fills, tape, turn_stands, owed, laws}
 use Rattle.ak_relation.proofs.Program.Completing.{same_id}
+use Rattle.ak_relation.proofs.Program.TurnWords.{inputs_with}
 use Rattle.ak_relation.proofs.Program.Granted.{granted-completes}
 use Rattle.ak_relation.specs.Bytes.Contexts.{Gives, GivesNow}
 
@@ -160,6 +161,7 @@ module _ (layout : Layout) (image : List ℕ) (past : History) (control : Contro
   -- the relation after the turn
   pub called_stands : Stands layout image (at_moment past (called control b a) more new)
   called_stands = record {
+    inputs = inputs_with layout image control h.inputs (called control b a) (let words = h.inputs.words in record { returned = words.returned; saved = words.saved; now = tt });
     tape = tape layout image past control turns old new lp place flat after b a h is now running nothing flat_is at c;
     turns = (turn_stands layout image past control turns old new lp place flat after b a h is now running nothing flat_is at c, h.turns);
     laws = laws layout image past control turns old new lp place flat after b a h is now running nothing flat_is at c;

@@ -1,5 +1,5 @@
 -- A turn of the program that completes an instruction and is no call, as `IsTurn`, from what the machine shows by its own tables.
-use Rattle.std.proofs.Common.{◌≡◌, ℕ, ◌*◌, ◌<◌, ◌≤◌, [], ◌∷◌, refl, ap, sym, ◌∙◌, subst}
+use Rattle.std.proofs.Common.{◌≡◌, ℕ, ◌*◌, ◌<◌, ◌≤◌, [], ◌∷◌, length, refl, ap, sym, ◌∙◌, subst}
 use Rattle.std.proofs.lemmas.Bool.{eqb-true}
 use Rattle.std.specs.Prelude.{Bool, true, false, option_map, Option, Some, None, is_some, ◌==◌}
 use Rattle.ak_core.specs.Layout.{Layout}
@@ -28,10 +28,12 @@ use Rattle.ak_relation.proofs.Program.Seen.{now_program, phase_running, none_sav
 use Rattle.ak_relation.proofs.Exits.SavedPages.{page_is}
 use Rattle.ak_relation.proofs.Leaves.ViewStands.{view-same}
 use Rattle.ak_relation.proofs.Program.WalkedFills.{fills_reached}
+use Rattle.ak_relation.proofs.Program.AwayPages.{away_pages}
+use Rattle.ak_relation.proofs.Program.OwnWords.{flat_whole}
 
 module _ (layout : Layout) (past : History) (lp place : ℕ) (flat after : Flat) (old new : State) (is : since past lp ≡ Some place) (h : TablesStand layout past old)
     (program : (p : ℕ) → p < pages layout → OfCopy (copies_at layout past old p) (λ bytes. bytes ≡ page_bytes flat p))
-    (cached : AreReached layout past place (old.processors lp).fills) (c : Computes layout lp flat after old new) where
+    (cached : AreReached layout past place (old.processors lp).fills) (full : 4096 * pages layout ≤ length flat.bytes) (c : Computes layout lp flat after old new) where
   held_same : (f : ℕ) → held_in (entry_at old.entries f) ≡ held layout past f
   held_same f = let same = view-same layout past old h in same.held f
 
@@ -41,7 +43,8 @@ module _ (layout : Layout) (past : History) (lp place : ℕ) (flat after : Flat)
       OfCopy (copy old (InHandle k)) (λ bytes. bytes ≡ page_bytes after p)
   sealed p k lt at own =
       subst (λ x. OfCopy (copy old (InHandle k)) (λ bytes. bytes ≡ x))
-      (c.away p lt (λ f e. (let there : InFrame f ≡ InHandle k = sym (h.one_copy.placed p f (sym (held_same f) ∙ e)) ∙ at in cc))) own
+      (away_pages layout past lp place is old h cached flat after full c.walked (new.processors lp).fills c.ends c.found c.fills c.filled p
+      (λ f e. (let there : InFrame f ≡ InHandle k = sym (h.one_copy.placed p f (sym (held_same f) ∙ e)) ∙ at in cc))) own
 
   by_place : (p : ℕ) (at : Place) → place_of layout past p ≡ at → p < pages layout → OfCopy (copy old at) (λ bytes. bytes ≡ page_bytes flat p) → OfCopy (copy new at) (λ bytes. bytes ≡ page_bytes after p)
   by_place p (InFrame f) at lt own = c.written f p (held_same f ∙ h.one_copy.framed p f at) lt own
@@ -119,5 +122,6 @@ module _ (layout : Layout) (lp : ℕ) (old new : State) where
             told = refl;
             stands = ordinary_stands layout image past control turns old new lp place h.bytes.flat shown.0 h e now (phase_running layout image past control turns old lp place h e mode)
                 (none_saved layout image past control turns old lp place h e mode) (comes_at layout image past control turns old lp place h e mode)
-                (completes layout past lp place h.bytes.flat shown.0 old new e h.tables h.bytes.pages.program stay.fills shown.1);
+                (completes layout past lp place h.bytes.flat shown.0 old new e h.tables h.bytes.pages.program stay.fills
+                (flat_whole layout image past control turns old h) shown.1);
           }

@@ -26,6 +26,7 @@ use Rattle.ak_relation.specs.Relation.Stands.{runs_at, copies_at, BytesStand, St
 use Rattle.ak_relation.specs.Premises.Ordinary.{Completes}
 use Rattle.ak_relation.specs.Relation.Does.{at_moment}
 use Rattle.ak_relation.proofs.Program.Completing.{same_id, going_more, reaches-next, tape-next, filled-completes}
+use Rattle.ak_relation.proofs.Program.TurnWords.{inputs_with}
 use Rattle.ak_relation.proofs.Program.Granted.{granted-completes}
 use Rattle.ak_relation.specs.Bytes.Contexts.{GivesNow}
 
@@ -181,6 +182,7 @@ module _ (layout : Layout) (image : List ℕ) (past : History) (control : Contro
   -- the relation after the turn
   pub ordinary_stands : Stands layout image (at_moment past (counted control) (new_turn lp past control ∷ turns) new)
   ordinary_stands = record {
+    inputs = inputs_with layout image control h.inputs (counted control) (let words = h.inputs.words in record { returned = words.returned; saved = words.saved; now = words.now });
     tape = tape;
     turns = (turn_stands, h.turns);
     laws = laws;

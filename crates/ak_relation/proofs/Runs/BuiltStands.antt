@@ -13,6 +13,7 @@ use Rattle.ak_relation.specs.Relation.Does.{at_moment}
 pub built_stands : (layout : Layout) (image : List ℕ) (state : State) → IsValid layout → IsBuilt layout image state →
     Stands layout image (at_moment [] (control_at_build layout []) [] state)
 built_stands layout image state valid b = record {
+  inputs = record { valid = valid; bytes = b.bytes; whole = b.whole; words = record { returned = tt; saved = tt; now = tt } };
   tape = record { ordered = refl; fit = tt; completed = λ i lt. absurd (omega arith); traps = tt };
   turns = tt;
   laws = record {

@@ -31,6 +31,9 @@ use Rattle.ak_relation.specs.Premises.Saving.{missed_in, Saves}
 use Rattle.ak_relation.specs.Premises.Works.{IsStep, KeepsTables, Quits}
 use Rattle.ak_relation.specs.Relation.Does.{at_moment}
 use Rattle.ak_relation.proofs.Program.Calls.{oldest_saved}
+use Rattle.ak_model.specs.Control.OneTurn.{Leaves}
+use Rattle.ak_relation.proofs.Program.TurnWords.{inputs_with, turned_words}
+use Rattle.ak_relation.proofs.Program.OwnWords.{saved_fits}
 use Rattle.ak_relation.proofs.Exits.SavedPages.{pages_after, older_breaks}
 use Rattle.ak_relation.proofs.Exits.Interrupted.{few_saved}
 use Rattle.ak_relation.proofs.Exits.LeftTables.{tables_left, nobody_left, stays_left}
@@ -121,6 +124,7 @@ module _ (layout : Layout) (fit : ClustersFit layout) (image : List ℕ) (past :
   -- the relation after the fault
   pub faulted_stands : Stands layout image (at_moment after (faulted control context t) turns new)
   faulted_stands = record {
+    inputs = inputs_with layout image control h.inputs (faulted control context t) (turned_words layout image control h.inputs past (Leaves (shown_fault layout) (faulted control context t)) turned);
     tape = h.tape;
     turns = h.turns;
     laws = laws_leaving layout fit past control turns h.laws lp.0 within context step now (Run lp all, Answer.Exit (shown_fault layout)) (shown_fault layout) (faulted control context t) turned refl nobody keeps;
@@ -132,7 +136,8 @@ module _ (layout : Layout) (fit : ClustersFit layout) (image : List ℕ) (past :
       program = subst (λ o. IsAtBy o layout image control.returned control.count h.bytes.flat)
           (ap (λ x. owing_by control.phase (oldest control.stack x)) now ∙ sym (ap (owing_by control.phase) (oldest_saved control.stack context (Faulted t)))) h.bytes.program;
       pages = pages_after layout past old new lp.0 (length control.stack) true (ByPage t) h.tables s stay.tcs.frame.holds stay.area.frame.holds
-          control.phase control.queue h.bytes.flat control.stack control.pending context (Faulted t) refl few noted gives h.bytes.pages;
+          control.phase control.queue h.bytes.flat control.stack control.pending context (Faulted t) refl few
+          (saved_fits layout image past control turns old h lp.0 place is (length control.stack) true (ByPage t) new s) noted gives h.bytes.pages;
       registers = record { given = λ q i. tt };
     };
     reached = record {

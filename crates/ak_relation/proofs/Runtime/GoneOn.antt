@@ -25,6 +25,7 @@ use Rattle.ak_relation.specs.Relation.Stands.{runs_at, copies_at, BytesStand, St
 use Rattle.ak_relation.specs.Premises.Works.{IsStep, KeepsTables, GoesOn}
 use Rattle.ak_relation.specs.Relation.Does.{at_moment}
 use Rattle.ak_relation.proofs.Program.Granted.{granted-same}
+use Rattle.ak_relation.proofs.Program.TurnWords.{inputs_with, turned_words}
 use Rattle.ak_relation.proofs.Program.LongerTurns.{all_come, granted-longer, turns-longer, tape-longer}
 use Rattle.ak_relation.proofs.Runtime.StepLaws.{Keeps, laws_going}
 
@@ -94,6 +95,7 @@ module _ (layout : Layout) (fit : ClustersFit layout) (image : List ℕ) (past :
   pub gone_on : turn layout past control ≡ Goes next → is_some next.now ≡ true → Keeps control next turns → BytesStand layout image next (copies_at layout past new) new.processors →
       BreaksStand layout (runs_at layout image next) turns (copies_at layout past new) next.stack → Stands layout image (at_moment past next turns new)
   gone_on turned some keeps bytes breaks = record {
+    inputs = inputs_with layout image control h.inputs next (turned_words layout image control h.inputs past (Goes next) turned);
     tape = subst (λ returned. TapeStands layout (flat_run layout image returned) next.count (events_by turns)) grown
         (subst (λ n. TapeStands layout longer n (events_by turns)) (sym keeps.count) (tape-longer layout image control.returned more control.count (events_by turns) h.tape));
     turns = subst (λ returned. TurnsStand layout (flat_run layout image returned) turns) grown (turns-longer layout image control.returned more turns h.turns);

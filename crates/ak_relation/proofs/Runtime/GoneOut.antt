@@ -21,6 +21,7 @@ use Rattle.ak_relation.specs.Program.Reaching.{BreaksStand}
 use Rattle.ak_relation.specs.Relation.Stands.{runs_at, copies_at, BytesStand, Stands}
 use Rattle.ak_relation.specs.Premises.Works.{IsStep, KeepsTables, Quits}
 use Rattle.ak_relation.specs.Relation.Does.{at_moment}
+use Rattle.ak_relation.proofs.Program.TurnWords.{inputs_with, turned_words}
 use Rattle.ak_relation.proofs.Exits.LeftTables.{copies_left, tables_left, nobody_left, stays_left}
 use Rattle.ak_relation.proofs.Runtime.StepLaws.{Keeps, laws_leaving}
 
@@ -42,6 +43,7 @@ module _ (layout : Layout) (fit : ClustersFit layout) (image : List ℕ) (past :
   pub gone_out : turn layout past control ≡ Leaves exit next → next.now ≡ None → Keeps control next turns → BytesStand layout image next (copies_at layout past new) new.processors →
       BreaksStand layout (runs_at layout image next) turns (copies_at layout past new) next.stack → Stands layout image (at_moment after next turns new)
   gone_out turned none keeps bytes breaks = record {
+    inputs = inputs_with layout image control h.inputs next (turned_words layout image control h.inputs past (Leaves exit next) turned);
     tape = subst (λ returned. TapeStands layout (flat_run layout image returned) next.count (events_by turns)) same
         (subst (λ n. TapeStands layout (runs_at layout image control) n (events_by turns)) (sym keeps.count) h.tape);
     turns = subst (λ returned. TurnsStand layout (flat_run layout image returned) turns) same h.turns;

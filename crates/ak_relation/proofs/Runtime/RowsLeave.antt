@@ -27,6 +27,7 @@ use Rattle.ak_relation.specs.Premises.StepsTo.{Outcome, HasState, Performs}
 use Rattle.ak_relation.specs.Program.Turns.{is_last_call}
 use Rattle.ak_relation.proofs.Runtime.Allowed.{call_regs}
 use Rattle.ak_relation.proofs.Runtime.RowPages.{FrameIs, pages_by}
+use Rattle.ak_relation.proofs.Program.OwnWords.{flat_fits}
 use Rattle.ak_relation.proofs.Runtime.Cases.{Case, Comes, context_fits, leaves_by, dies_by, state_set}
 use Rattle.ak_relation.proofs.Runtime.RowsBegin.{owing_at, ended_at, nothing}
 
@@ -74,12 +75,18 @@ module _ (layout : Layout) (image : List ℕ) (past : History) (control : Contro
 
 module _ (layout : Layout) (image : List ℕ) (past : History) (control : Control) (turns : List ProgramTurn) (old new : State) (lp : Lp) (b a : ℕ) (outcome : Outcome) (regs before : Regs)
     (c : Case layout image past control turns old new lp (Leave b a) outcome regs) (all : ℕ) (r : Reads) (same : r.queue ≡ control.queue)
-    (words : AreRegs before) (gives : IsAtStep layout before 32 × SameButRip before c.h.bytes.flat.regs) where
+    (gives : IsAtStep layout before 32 × SameButRip before c.h.bytes.flat.regs) where
   fits : (length control.stack ≡ 0) × (control.phase ≡ Running)
   fits = context_fits layout image past control turns old new lp (Leave b a) outcome regs c
 
   empty : control.stack ≡ []
   empty = nothing control.stack fits.0
+
+  words : AreRegs c.h.bytes.flat.regs
+  words = let own = flat_fits layout image past control turns old c.h in own.words
+
+  its_words : AreWords before.gpr
+  its_words = let own = words in let same = gives.1 in subst AreWords (sym same.gpr) own.words
 
   owed : IsAfterCall layout image control.returned control.count c.h.bytes.flat
   owed = subst (λ o. IsAtBy o layout image control.returned control.count c.h.bytes.flat) (owing_at control Running [] (Some (Leave b a)) fits.1 empty c.now) c.h.bytes.program
@@ -117,7 +124,7 @@ module _ (layout : Layout) (image : List ℕ) (past : History) (control : Contro
         flat = c.h.bytes.flat;
         program = owed;
         pages = set_pages layout image past control turns old new lp (Leave b a) outcome regs c all r same empty (leave_row layout r before (suc n) a) Calling (frame_bytes layout (left_frame before)) p p.state
-            (left_frame before, refl, kept, record { sixteen = words.sixteen; words = words.words; rip = word_at before.gpr rcx words.words });
+            (left_frame before, refl, kept, record { sixteen = let own = words in let same = gives.1 in ap length same.gpr ∙ own.sixteen; words = its_words; rip = word_at before.gpr rcx its_words });
         breaks = no_breaks layout image past control turns old new lp (Leave b a) outcome regs c all r same empty out refl;
       }) refl p.ends
 

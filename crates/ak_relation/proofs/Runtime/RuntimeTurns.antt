@@ -74,7 +74,7 @@ module _ (layout : Layout) (fit : ClustersFit layout) (walks : steps_walk layout
             kept = left.kept;
             ends = left.ends;
           } in
-          steps layout image past control turns old new lp outcome s.regs (old.processors lp.0).regs s.words all at.context c
+          steps layout image past control turns old new lp outcome s.regs (old.processors lp.0).regs all at.context c
           (gives layout image past control turns old h lp.0 within s.holds s.before seen.memory at.context at.step at.is) shown.1
 
       -- one was refused

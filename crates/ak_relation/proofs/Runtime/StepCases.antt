@@ -13,7 +13,6 @@ use Rattle.ak_model.specs.Control.OneTurn.{Goes}
 use Rattle.ak_model.specs.Control.RuntimeTurn.{asked_pages, enter, resume_guard}
 use Rattle.ak_model.specs.Tapes.ProgramTurns.{ProgramTurn}
 use Rattle.ak_model.specs.Laws.StepRows.{opens, guards}
-use Rattle.ak_relation.specs.Bytes.SavedRegisters.{AreRegs}
 use Rattle.ak_relation.specs.State.MachineState.{State}
 use Rattle.ak_relation.specs.Bytes.Contexts.{Gives}
 use Rattle.ak_relation.specs.Premises.Rows.{Reads, guard_frame, entry_row, finish_row, guard_row, leave_row}
@@ -25,7 +24,7 @@ use Rattle.ak_relation.proofs.Runtime.RowsLeave.{ends_program, calls_out, resume
 use Rattle.ak_relation.proofs.Runtime.RowsProbe.{probing, probes, finishes}
 use Rattle.ak_relation.proofs.Runtime.EntryCases.{HasRegs, kept_read, only, At, Works, Goal, handled, shown_entry}
 
-module _ (layout : Layout) (image : List ℕ) (past : History) (control : Control) (turns : List ProgramTurn) (old new : State) (lp : Lp) (outcome : Outcome) (regs before : Regs) (words : AreRegs before) (all : ℕ) where
+module _ (layout : Layout) (image : List ℕ) (past : History) (control : Control) (turns : List ProgramTurn) (old new : State) (lp : Lp) (outcome : Outcome) (regs before : Regs) (all : ℕ) where
   -- an entry in this context
   abbrev AtEntry : ℕ → ℕ → Type 0
   AtEntry k v = At layout image past control turns old new lp v outcome regs before all (Enter k v)
@@ -122,8 +121,8 @@ module _ (layout : Layout) (image : List ℕ) (past : History) (control : Contro
 
   leave_by : (b a : ℕ) (c : AtStep (Leave b a)) (r : Reads) → r.queue ≡ control.queue → Gives layout control.phase c.h.bytes.flat (Leave b a) before →
       Performs layout (leave_row layout r before b a) c.before c.after outcome regs → StepGoal (Leave b a) c
-  leave_by zero a c r same gives p = ends_program layout image past control turns old new lp 0 a outcome regs before c all r same words (gives.0, gives.1) refl p
-  leave_by (suc n) a c r same gives p = calls_out layout image past control turns old new lp (suc n) a outcome regs before c all r same words (gives.0, gives.1) n refl p
+  leave_by zero a c r same gives p = ends_program layout image past control turns old new lp 0 a outcome regs before c all r same (gives.0, gives.1) refl p
+  leave_by (suc n) a c r same gives p = calls_out layout image past control turns old new lp (suc n) a outcome regs before c all r same (gives.0, gives.1) n refl p
 
   -- any step of the runtime
   pub steps : (context : Context) (c : AtStep context) → Gives layout control.phase c.h.bytes.flat context before → WorksBy layout control context before c.before c.after outcome regs → StepGoal context c

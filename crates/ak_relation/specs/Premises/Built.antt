@@ -1,11 +1,14 @@
--- What the build leaves: tables and pages as they are at the start, and nobody inside.
-use Rattle.std.specs.Prelude.{◌≡◌, ℕ, false, List, []}
+-- What the build leaves of an image of bytes, one page of them at least for each page of the program: tables and pages as they are at
+-- the start, and nobody inside.
+use Rattle.std.specs.Prelude.{◌≡◌, ℕ, ◌*◌, ◌≤◌, false, List, [], length}
 use Rattle.ak_core.specs.Layout.{Layout}
 use Rattle.ak_model.specs.Paging.Build.{queue_at_build}
+use Rattle.ak_model.specs.Paging.Pages.{pages}
 use Rattle.ak_model.specs.Control.ControlState.{New}
 use Rattle.ak_model.specs.Flat.FlatRuns.{Flat, first_run}
 use Rattle.ak_relation.specs.State.MachineState.{State}
 use Rattle.ak_relation.specs.Bytes.Pages.{CopiesStand}
+use Rattle.ak_relation.specs.Program.FlatFits.{AreBytes}
 use Rattle.ak_relation.specs.State.Tables.{TablesStand}
 use Rattle.ak_relation.specs.Relation.Stands.{copies_at}
 
@@ -15,6 +18,8 @@ first_state layout image = (first_run layout image []).flat
 
 -- after the build of an image
 pub record IsBuilt (layout : Layout) (image : List ℕ) (state : State) : Type 0 where
+  pub bytes : AreBytes image
+  pub whole : 4096 * pages layout ≤ length image
   pub tables : TablesStand layout [] state
   pub pages : CopiesStand layout New (queue_at_build layout.build layout) [] false (first_state layout image) (copies_at layout [] state)
   pub count : state.count ≡ 0

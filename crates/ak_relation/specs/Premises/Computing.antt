@@ -14,15 +14,13 @@ use Rattle.ak_relation.specs.Premises.Faulting.{AreWalked}
 use Rattle.ak_relation.specs.Premises.CallingOut.{walked_fill}
 use Rattle.ak_relation.specs.Program.Seeing.{Sees}
 
--- the processor has the next flat state's registers, and each frame of a program's page its bytes; a page that is in no frame has
--- the same in both; what was cached grows by the accesses of the line, each found by a walk; and all else stays
+-- the processor has the next flat state's registers, and each frame of a program's page its bytes; what was cached grows by the
+-- accesses of the line, each found by a walk; and all else stays
 pub record Computes (layout : Layout) (lp : ℕ) (flat after : Flat) (old new : State) : Type 0 where
   pub ends : ending layout flat ≡ End.Next after
   pub regs : (new.processors lp).regs ≡ after.regs
   pub written : (f p : ℕ) → held_in (entry_at old.entries f) ≡ PageFrame p → p < pages layout → old.frames f ≡ page_bytes flat p →
       new.frames f ≡ page_bytes after p
-  pub away : (p : ℕ) → p < pages layout → ((f : ℕ) → held_in (entry_at old.entries f) ≡ PageFrame p → ⊥) →
-      page_bytes flat p ≡ page_bytes after p
   pub frames : (f : ℕ) → ((p : ℕ) → held_in (entry_at old.entries f) ≡ PageFrame p → pages layout ≤ p) → new.frames f ≡ old.frames f
   pub whole : (f : ℕ) → length (new.frames f) ≡ 4096
   pub walked : List Access

@@ -7,7 +7,8 @@ use Rattle.ak_model.specs.Clusters.Queue.{is_in}
 use Rattle.ak_model.specs.Flat.FlatRuns.{is_forbidden}
 use Rattle.ak_model.specs.Laws.Orderly.{after_miss_if}
 use Rattle.ak_relation.specs.Bytes.SavedFrames.{SavedCause, NoCause, ByVector, ByPage, area_place, HasFrame}
-use Rattle.ak_relation.specs.Bytes.FramesFit.{FrameFits}
+use Rattle.ak_relation.specs.Bytes.SavedRegisters.{AreRegs}
+use Rattle.ak_relation.specs.Bytes.FramesFit.{CauseFits}
 use Rattle.ak_relation.specs.State.TrackSteps.{LeavesBy}
 use Rattle.ak_relation.specs.State.MachineState.{State}
 use Rattle.ak_relation.specs.Bytes.Pages.{IsTcs}
@@ -21,11 +22,12 @@ missed_in layout queue (ByPage t) Mode.Program =
     if is_forbidden layout t then None
     else (if is_in queue (cluster_at layout t.page.0) then None else Some (cluster_at layout t.page.0))
 
--- the processor's registers are in its area, with this cause, in a frame that fits; the TCS says that one more context is saved;
--- nothing is cached; and all else stays
+-- the processor's registers are in its area, with this cause, which fits; the runtime's have 64 bits, as the program's have; the TCS
+-- says that one more context is saved; nothing is cached; and all else stays
 pub record Saves (layout : Layout) (lp saved : ℕ) (pending : Bool) (cause : SavedCause) (old new : State) : Type 0 where
   pub area : HasFrame layout area_place (new.frames (old.processors lp).ssa) (record { regs = (old.processors lp).regs; cause = cause })
-  pub fits : FrameFits layout (record { regs = (old.processors lp).regs; cause = cause })
+  pub words : (old.processors lp).regs.mode ≡ Mode.Runtime → AreRegs (old.processors lp).regs
+  pub fits : CauseFits layout cause
   pub tcs : IsTcs (saved + 1) pending (new.frames (old.processors lp).tcs)
   pub frames : (g : ℕ) → (g == (old.processors lp).tcs) ≡ false → (g == (old.processors lp).ssa) ≡ false → new.frames g ≡ old.frames g
   pub whole : (g : ℕ) → length (new.frames g) ≡ 4096

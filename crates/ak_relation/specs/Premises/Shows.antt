@@ -9,7 +9,6 @@ use Rattle.ak_model.specs.Paging.Histories.{History}
 use Rattle.ak_model.specs.Flat.FlatRuns.{Flat}
 use Rattle.ak_model.specs.Control.ControlState.{Context, Control}
 use Rattle.ak_relation.specs.Bytes.SavedFrames.{ByPage}
-use Rattle.ak_relation.specs.Bytes.SavedRegisters.{AreRegs}
 use Rattle.ak_relation.specs.State.MachineState.{State}
 use Rattle.ak_relation.specs.Bytes.Pages.{IsTcs}
 use Rattle.ak_relation.specs.State.Tables.{TablesStand}
@@ -33,7 +32,6 @@ pub record StepLeaves (layout : Layout) (past : History) (lp : ℕ) (holds : ℕ
 -- accesses before and after; and the machine does as the outcome says. A refused access saves the context
 pub record ShowsStep (layout : Layout) (lp : ℕ) (old new : State) (outcome : Outcome) : Type 0 where
   pub mode : (old.processors lp).regs.mode ≡ Mode.Runtime
-  pub words : AreRegs (old.processors lp).regs
   pub holds : ℕ → Bool
   pub before : ℕ → List ℕ
   pub after : ℕ → List ℕ

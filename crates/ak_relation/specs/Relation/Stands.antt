@@ -11,6 +11,7 @@ use Rattle.ak_model.specs.Sound.Forced.{queue_by}
 use Rattle.ak_relation.specs.State.MachineState.{Processor, State, copy}
 use Rattle.ak_relation.specs.Bytes.Contexts.{GivesNow}
 use Rattle.ak_relation.specs.Program.FlatPlaces.{IsAt}
+use Rattle.ak_relation.specs.Program.Inputs.{InputsStand}
 use Rattle.ak_relation.specs.Bytes.Pages.{Copies, CopiesStand}
 use Rattle.ak_relation.specs.State.Tables.{TablesStand}
 use Rattle.ak_relation.specs.Program.Turns.{events_by, TapeStands, TurnsStand, LawsStand}
@@ -45,6 +46,7 @@ pub record BytesStand (layout : Layout) (image : List ℕ) (control : Control) (
 
 -- the relation
 pub record Stands (layout : Layout) (image : List ℕ) (at : Standing) : Type 0 where
+  pub inputs : InputsStand layout image at.control
   pub tape : TapeStands layout (runs_at layout image at.control) at.control.count (events_by at.turns)
   pub turns : TurnsStand layout (runs_at layout image at.control) at.turns
   pub laws : LawsStand layout at.past at.control at.turns

@@ -19,7 +19,7 @@ ghost use Rattle.ak_relation.specs.Premises.Saving.{Saves};
 ghost use Rattle.ak_relation.specs.Relation.Does.{IsMove};
 ghost use Rattle.ak_relation.specs.State.MachineState.{State};
 ghost use Rattle.ak_relation.specs.State.Tables.{TablesStand};
-ghost use Rattle.std.specs.Prelude.{Bool, List, None, false, true, ℕ, ◌-◌, ◌<◌, ◌≡◌};
+ghost use Rattle.std.specs.Prelude.{Bool, List, None, false, true, ℕ, ◌-◌, ◌<◌, ◌^◌, ◌≡◌};
 ghost use Rattle.ak_core.specs.Layout;
 
 /// Where the tables stand, a walk over the machine's own tables finds a page, or the TCS, just where one of the definitions does.
@@ -30,11 +30,11 @@ pub fn walks_agree()
         → tcs_in layout state ≡ tcs_walkable layout past }
 {}
 
-/// An entering is a move, by its row over the machine's own tables, where entering walks: done, of a machine that shows what it does,
-/// or refused, of one that stays.
+/// An entering is a move, by its row over the machine's own tables, where entering walks: done, with a value of 64 bits, of a machine
+/// that shows what it does, or refused, of one that stays.
 pub fn enter_moves()
     ensures done { (layout : Layout.Layout) (old new : State) (lp : Lp) (v : ℕ) → entering_walks layout.build ≡ true
-        → enter_row layout old lp.0 ≡ Ok → EntersAt layout lp.0 (saved_in layout old) v old new
+        → v < 2 ^ 64 → enter_row layout old lp.0 ≡ Ok → EntersAt layout lp.0 (saved_in layout old) v old new
         → IsMove layout old new (Eenter lp v) Ok None }
     ensures refused { (layout : Layout.Layout) (old : State) (lp : Lp) (v : ℕ) (a : Answer) → entering_walks layout.build ≡ true
         → is_done a ≡ false → enter_row layout old lp.0 ≡ a → IsMove layout old old (Eenter lp v) a None }

@@ -16,7 +16,7 @@ ghost use Rattle.ak_model.specs.Paging.Inside.{since};
 ghost use Rattle.ak_model.specs.Paging.Pages.{cluster_at, pages};
 ghost use Rattle.ak_model.specs.Tapes.ProgramTurns.{ProgramTurn};
 ghost use Rattle.ak_relation.specs.Bytes.SavedFrames.{ByPage, ByVector};
-ghost use Rattle.ak_relation.specs.Bytes.SavedRegisters.{AreWords};
+ghost use Rattle.ak_relation.specs.Bytes.SavedRegisters.{AreRegs, AreWords};
 ghost use Rattle.ak_relation.specs.Premises.CallingOut.{ShowsCall, walked_fill};
 ghost use Rattle.ak_relation.specs.Premises.Computing.{ShowsComputed};
 ghost use Rattle.ak_relation.specs.Premises.Faulting.{AreWalked, SavesFirst, ShowsFault, ShowsTrap};
@@ -78,6 +78,18 @@ pub fn completed_turns()
 pub fn values_fit()
     ensures { (layout : Layout.Layout) (image returned : List ℕ) → IsValid layout → AreBytes image → AreWords returned
         → (owing : Owing) (count : ℕ) (flat : Flat) → IsAtBy owing layout image returned count flat → FlatFits flat }
+{}
+
+/// So they are where the relation holds: the flat state's values fit, it has all bytes of the program's pages, and a processor that runs
+/// the program has registers of 64 bits.
+pub fn standing_values_fit()
+    ensures values { (layout : Layout.Layout) (image : List ℕ) (past : History) (control : Control) (turns : List ProgramTurn) (state : State)
+        → (stands : Stands layout image (at_moment past control turns state)) → FlatFits stands.bytes.flat }
+    ensures whole { (layout : Layout.Layout) (image : List ℕ) (past : History) (control : Control) (turns : List ProgramTurn) (state : State)
+        → (stands : Stands layout image (at_moment past control turns state)) → 4096 * pages layout ≤ length stands.bytes.flat.bytes }
+    ensures registers { (layout : Layout.Layout) (image : List ℕ) (past : History) (control : Control) (turns : List ProgramTurn) (state : State) (lp place : ℕ)
+        → Stands layout image (at_moment past control turns state) → since past lp ≡ Some place
+        → (state.processors lp).regs.mode ≡ Mode.Program → AreRegs (state.processors lp).regs }
 {}
 
 /// Where the image has 4096 bytes at least for each page of the program, each flat state has as many bytes as the image; an
