@@ -1,4 +1,5 @@
 pub mod Tracking
+pub mod Bytes
 pub mod Leaves
 pub mod Entering
 pub mod Flat

@@ -1,6 +1,7 @@
 // Laws on the relation, a module for each subject.
 
 pub mod built;
+pub mod bytes;
 pub mod definitions;
 pub mod entering;
 pub mod leaves;

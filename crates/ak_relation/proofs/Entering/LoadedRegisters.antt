@@ -9,7 +9,7 @@ use Rattle.ak_relation.specs.Bytes.SavedFrames.{SavedFrame, exit_info, bit_if, f
 use Rattle.ak_relation.specs.Bytes.SavedRegisters.{AreWords, AreRegs, words_in, after_words, flag_in, mode_in, regs_by, regs_in, area_regs}
 
 -- a number that fits so many bytes comes back from them
-value_back : (n x : ℕ) → x < 256 ^ n → le_value (le_bytes n x) ≡ x
+pub value_back : (n x : ℕ) → x < 256 ^ n → le_value (le_bytes n x) ≡ x
 value_back zero x lt = omega arith
 value_back (suc n) x lt =
     let small : x / 256 < 256 ^ n = (div-lt_iff_lt-mul (omega arith)).1 (omega arith) in
@@ -21,7 +21,7 @@ words_back [] rest h = refl
 words_back (x ∷ xs) rest h = ap (λ y. y ∷ words_in (length xs) (flat_map (le_bytes 8) xs ++ rest)) (value_back 8 x h.0) ∙ ap (λ ys. x ∷ ys) (words_back xs rest h.1)
 
 -- and what follows them
-past_words : (xs rest : List ℕ) → after_words (length xs) (flat_map (le_bytes 8) xs ++ rest) ≡ rest
+pub past_words : (xs rest : List ℕ) → after_words (length xs) (flat_map (le_bytes 8) xs ++ rest) ≡ rest
 past_words [] rest = refl
 past_words (x ∷ xs) rest = past_words xs rest
 
@@ -49,12 +49,12 @@ mode_back Mode.Program = refl
 mode_back Mode.Runtime = refl
 
 -- what follows the sixteen registers in a frame
-abbrev tail_of : SavedFrame → List ℕ
+abbrev pub tail_of : SavedFrame → List ℕ
 tail_of frame =
     le_bytes 8 (flags_number frame.regs) ++ (le_bytes 8 frame.regs.rip
     ++ (replicate 16 0 ++ (le_bytes 4 (exit_info frame.cause) ++ (mode_number frame.regs.mode ∷ replicate 19 0))))
 
-parts : (layout : Layout) (frame : SavedFrame) → drop 16 (frame_bytes layout frame) ≡ flat_map (le_bytes 8) frame.regs.gpr ++ tail_of frame
+pub parts : (layout : Layout) (frame : SavedFrame) → drop 16 (frame_bytes layout frame) ≡ flat_map (le_bytes 8) frame.regs.gpr ++ tail_of frame
 unfolding frame_bytes
 parts layout frame = refl
 

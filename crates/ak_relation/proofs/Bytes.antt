@@ -1,0 +1,2 @@
+-- Lemmas on the bytes of pages.
+pub mod FramesReturn

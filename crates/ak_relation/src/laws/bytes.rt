@@ -1,0 +1,17 @@
+// Laws on the bytes of saved frames.
+ghost use Rattle.ak_core.specs.Layout.{IsValid};
+ghost use Rattle.ak_relation.specs.Bytes.FramesFit.{FrameFits, HasRoom};
+ghost use Rattle.ak_relation.specs.Bytes.ReadFrames.{frame_in};
+ghost use Rattle.ak_relation.specs.Bytes.SavedFrames.{HasFrame, SavedFrame};
+ghost use Rattle.std.specs.Prelude.{List, drop, take, ℕ, ◌≡◌};
+ghost use Rattle.ak_core.specs.Layout;
+
+/// A saved frame that fits comes back from bytes that have it at a place, registers, cause and all. So bytes determine the frame that
+/// they have there. Each valid layout has the room that this asks for.
+pub fn saved_frames_return()
+    ensures returns { (layout : Layout.Layout) (place : ℕ) (bytes : List ℕ) (frame : SavedFrame) → HasRoom layout → FrameFits layout frame
+        → HasFrame layout place bytes frame → frame_in layout (take 200 (drop place bytes)) ≡ frame }
+    ensures one { (layout : Layout.Layout) (place : ℕ) (bytes : List ℕ) (frame other : SavedFrame) → HasRoom layout
+        → FrameFits layout frame → FrameFits layout other → HasFrame layout place bytes frame → HasFrame layout place bytes other → frame ≡ other }
+    ensures room { (layout : Layout.Layout) → IsValid layout → HasRoom layout }
+{}
