@@ -10,6 +10,7 @@ pub mod WalkedFills
 pub mod AwayPages
 pub mod Completing
 pub mod Staying
+pub mod Ordinary
 pub mod OrdinaryTurns
 pub mod ComputedTurns
 pub mod ProgramTurns

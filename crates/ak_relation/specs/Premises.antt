@@ -8,7 +8,6 @@ pub mod Entering
 pub mod Resuming
 pub mod EnterRows
 pub mod Saving
-pub mod Ordinary
 pub mod Computing
 pub mod CallingOut
 pub mod Faulting

@@ -19,7 +19,7 @@ use Rattle.ak_relation.specs.State.Tables.{EntriesStand, MappingStands, SealedPa
 use Rattle.ak_relation.specs.State.MachineView.{held_in}
 use Rattle.ak_relation.specs.Program.Reaching.{AreReached}
 use Rattle.ak_relation.specs.Relation.Stands.{copies_at}
-use Rattle.ak_relation.specs.Premises.Ordinary.{Completes}
+use Rattle.ak_relation.proofs.Program.Ordinary.{Completes}
 use Rattle.ak_relation.specs.Premises.Computing.{Computes, ShowsComputed}
 use Rattle.ak_relation.specs.Relation.Does.{TurnFollows, at_moment, GoesTo, IsTurn}
 use Rattle.ak_relation.proofs.Program.OrdinaryTurns.{new_turn, counted, ordinary_stands}

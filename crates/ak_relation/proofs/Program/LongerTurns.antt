@@ -1,5 +1,5 @@
 -- What was said of turns and tape stays so when a call returns one more value: the flat run goes on as far as it came.
-use Rattle.std.proofs.Common.{◌≡◌, ℕ, List, [], ◌∷◌, ◌++◌, refl, ap, ◌∙◌, subst}
+use Rattle.std.proofs.Common.{◌≡◌, ℕ, List, [], ◌∷◌, ◌++◌, refl, ap, ◌∙◌}
 use Rattle.std.specs.Prelude.{Bool, true, false, cond, filter, flat_map, take, slice_get, option_map, option_and_then, Option, Some, None}
 use Rattle.std.specs.List.{list_all}
 use Rattle.ak_core.specs.Layout.{Layout}
@@ -19,7 +19,6 @@ use Rattle.ak_model.specs.Misses.KeptTranslations.{completed_since, granted_sinc
 use Rattle.ak_model.proofs.Flat.MoreCallAnswers.{flat_run-longer}
 use Rattle.ak_model.proofs.Tapes.MoreValuesReturned.{accesses-longer, comes-longer, completes-longer, faults-comes}
 use Rattle.ak_relation.specs.Program.Turns.{TapeStands, TurnsStand}
-use Rattle.ak_relation.specs.Program.Reaching.{IsBreakBy}
 
 module _ (layout : Layout) (image returned more : List ℕ) where
   -- the flat run before and after
@@ -107,22 +106,6 @@ module _ (layout : Layout) (image returned more : List ℕ) where
         },
         turns-longer older h.1,
       )
-
-  drop_newer : (newer older : List ProgramTurn) (turn : ProgramTurn) → AllCome (newer ++ turn ∷ older) → AllCome older
-  drop_newer [] older turn h = h.1
-  drop_newer (new ∷ newer) older turn h = drop_newer newer older turn h.1
-
-  -- the evidence of a break stays
-  pub break-longer : (turns : List ProgramTurn) (access : Access) → AllCome turns → IsBreakBy layout before turns access → IsBreakBy layout longer turns access
-  break-longer turns access came h = record {
-    newer = h.newer;
-    turn = h.turn;
-    older = h.older;
-    among = h.among;
-    broke = h.broke;
-    faults = unkept-longer h.turn h.older access (drop_newer h.newer h.older h.turn (subst AllCome h.among came)) h.faults;
-    inside = h.inside;
-  }
 
   -- ---- The tape
 

@@ -23,7 +23,7 @@ use Rattle.ak_relation.specs.Program.Calls.{calls_by, IsReturned}
 use Rattle.ak_relation.specs.Program.Turns.{events_by, TapeStands, TurnStands, IsGoing, LawsStand, IsFresh, is_last, is_last_call}
 use Rattle.ak_relation.specs.Program.Reaching.{is_filled, granted_to, IsStaying, StaysBy, BreaksStand, HoldsArea, HoldsTcs}
 use Rattle.ak_relation.specs.Relation.Stands.{runs_at, copies_at, BytesStand, Stands}
-use Rattle.ak_relation.specs.Premises.Ordinary.{Completes}
+use Rattle.ak_relation.proofs.Program.Ordinary.{Completes}
 use Rattle.ak_relation.specs.Relation.Does.{at_moment}
 use Rattle.ak_relation.proofs.Program.Completing.{same_id, going_more, reaches-next, tape-next, filled-completes}
 use Rattle.ak_relation.proofs.Program.TurnWords.{inputs_with}

@@ -1,4 +1,5 @@
--- An ordinary turn of the program as a turn of the machine: the mode in the registers tells that the program goes on.
+-- What follows in the definitions from a turn of the program that gives no event: the mode in the registers tells that the program
+-- goes on.
 use Rattle.std.proofs.Common.{◌≡◌, ℕ, ◌+◌, List, [], ◌∷◌, refl, ap, sym, ◌∙◌, subst, arith}
 use Rattle.std.proofs.lemmas.Bool.Decides.{nat_tests}
 use Rattle.std.specs.Prelude.{true, false, Option, Some, None, is_some, ◌==◌}
@@ -8,24 +9,17 @@ use Rattle.ak_core.specs.declared.registers.Mode.{Mode}
 use Rattle.ak_core.specs.declared.registers.Regs.{Regs}
 use Rattle.ak_core.specs.declared.event.Event.{Event}
 use Rattle.ak_model.specs.Paging.Histories.{History}
-use Rattle.ak_model.specs.Paging.Inside.{since}
 use Rattle.ak_model.specs.Flat.FlatRuns.{Flat}
 use Rattle.ak_model.specs.Control.ControlState.{Phase, Running, Context, Program, Enter, Probe, Finish, Guard, Leave, Control}
 use Rattle.ak_model.specs.Control.Runs.{turn_of}
 use Rattle.ak_model.specs.Control.EventTurn.{count_of, due, event_turn}
 use Rattle.ak_model.specs.Tapes.ProgramTurns.{ProgramTurn, turn_in}
 use Rattle.ak_model.specs.Laws.Premises.{IsLater}
-use Rattle.ak_model.specs.Laws.Orderly.{NowFits}
 use Rattle.ak_relation.specs.Bytes.Contexts.{GivesNow}
 use Rattle.ak_relation.specs.Program.FlatPlaces.{Settled, oldest, owing_running, owing_by, owing, IsAtBy, Reaches}
 use Rattle.ak_relation.specs.State.MachineState.{State}
-use Rattle.ak_relation.specs.State.Tables.{TablesStand}
-use Rattle.ak_relation.specs.Bytes.Pages.{CopiesStand}
-use Rattle.ak_relation.specs.Relation.Stands.{copies_at}
-use Rattle.ak_relation.specs.Premises.Ordinary.{Completes}
-use Rattle.ak_relation.specs.Relation.Does.{with_rest, TurnFollows, at_moment, GoesTo, IsTurn}
-use Rattle.ak_relation.proofs.Program.OrdinaryTurns.{new_turn, counted, ordinary_stands}
-use Rattle.ak_relation.proofs.Program.Completing.{empty}
+use Rattle.ak_relation.specs.Relation.Does.{with_rest, TurnFollows}
+use Rattle.ak_relation.proofs.Program.OrdinaryTurns.{new_turn, counted}
 
 -- ---- What the registers tell
 
@@ -66,48 +60,9 @@ module _ (layout : Layout) (lp : ℕ) (past : History) (control : Control) (now 
   }
 
 module _ (layout : Layout) (lp : ℕ) (old new : State) where
-  -- what the machine shows of the turn, wherever the program is
-  abbrev pub ShowsTurn : Type 0
-  ShowsTurn =
-      (past : History) (place : ℕ) (control : Control) (flat : Flat) → since past lp ≡ Some place → TablesStand layout past old → (old.processors lp).regs ≡ flat.regs →
-      CopiesStand layout control.phase control.queue control.stack control.pending flat (copies_at layout past old) →
-      (after : Flat) × Completes layout past lp place flat after old new
-
   -- the flat run comes to its state
   pub settled_at : (control : Control) (image : List ℕ) (flat : Flat) → control.now ≡ Some Program → control.phase ≡ Running → control.stack ≡ [] →
       IsAtBy (owing control) layout image control.returned control.count flat → Reaches layout image control.returned control.count flat
   settled_at control image flat now running nothing at =
       let settled : owing control ≡ Settled = ap (λ p. owing_by p (oldest control.stack control.now)) running ∙ ap (λ s. owing_by Running (oldest s control.now)) nothing ∙ ap owing_running now in
       subst (λ o. IsAtBy o layout image control.returned control.count flat) settled at
-
-  -- a turn in program mode that completes an instruction, and is no call
-  pub ordinary_turns : (old.processors lp).regs.mode ≡ Mode.Program → ShowsTurn → IsTurn layout lp old new None None
-  ordinary_turns mode shows image past control turns within h all =
-      at_place_of (since past lp) refl
-    where
-      now : control.now ≡ Some Program
-      now = program_now layout control.phase h.bytes.flat control.now (old.processors lp).regs
-          (h.bytes.registers.given lp (h.tables.presence.within lp ∙ within)) (h.laws.present.context lp within) mode
-
-      fits : NowFits layout control.phase control.stack (Some Program)
-      fits = subst (NowFits layout control.phase control.stack) now h.laws.orderly.now
-
-      nothing : control.stack ≡ []
-      nothing = empty control.stack fits.0
-
-      regs : (old.processors lp).regs ≡ h.bytes.flat.regs
-      regs = subst (λ x. GivesNow layout control.phase h.bytes.flat x (old.processors lp).regs) now (h.bytes.registers.given lp (h.tables.presence.within lp ∙ within))
-
-      at_place_of : (o : Option ℕ) → since past lp ≡ o → GoesTo layout image (TurnFollows layout lp past None) (at_moment past control turns old) past new None
-      at_place_of None e = absurd (let f : is_some (since past lp) ≡ false = ap is_some e in cc)
-      at_place_of (Some place) e =
-          let shown = shows past place control h.bytes.flat e h.tables regs h.bytes.pages in
-          record {
-            control = counted control;
-            turns = new_turn lp past control ∷ turns;
-            made = new_turn lp past control ∷ [];
-            does = record { turns = refl; traced = follows layout lp past control now; due = λ later ok. later_less later control.count ok };
-            told = refl;
-            stands = ordinary_stands layout image past control turns old new lp place h.bytes.flat shown.0 h e now fits.1 nothing
-                (settled_at control image h.bytes.flat now fits.1 nothing h.bytes.program) shown.1;
-          }
