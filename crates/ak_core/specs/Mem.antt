@@ -1,5 +1,5 @@
 -- Words on a memory that is touched before it is read or written.
-use Rattle.std.specs.Prelude.{◌≡◌, ℕ, Bool, true, false, ◌&&◌, List, [], ◌∷◌, ◌++◌, Option, Some, Result, OnOk, IfErr, ◌==◌, if◌then◌else◌}
+use Rattle.std.specs.Prelude.{◌≡◌, ℕ, ◌+◌, Bool, true, false, ◌&&◌, List, [], ◌∷◌, ◌++◌, take, drop, length, Option, Some, Result, OnOk, IfErr, ◌==◌, if◌then◌else◌}
 use Rattle.std.specs.List.{list_any}
 use Rattle.ak_core.specs.declared.page.Fault.{Fault}
 use Rattle.ak_core.specs.declared.page.Flags.{Flags}
@@ -40,6 +40,10 @@ is_writable granted p = list_any (λ t. (t.page.0 == p) && is_write t.kind) gran
 -- one page has these bytes, and the others stay
 abbrev pub with_page : (ℕ → List ℕ) → ℕ → List ℕ → ℕ → List ℕ
 with_page bytes p new q = if q == p then new else bytes q
+
+-- the bytes from a place on are these
+abbrev pub put_at : List ℕ → ℕ → List ℕ → List ℕ
+put_at bytes place new = take place bytes ++ (new ++ drop (place + length new) bytes)
 
 -- by what a memory finds its pages: how many pages the page table has, the frame and the flags of each page's entry, and the
 -- entries of the EPCM

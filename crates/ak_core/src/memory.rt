@@ -1,6 +1,6 @@
 // Memory as a turn sees it.
-ghost use Rattle.std.specs.Prelude.{◌≡◌, ◌<◌, ℕ, Bool, true, List, [], None, Option, length, slice_index, slice_set};
-ghost use Rattle.ak_core.specs.Mem.{Access, Tables, Touches, access_to, is_touched, is_writable, with_page};
+ghost use Rattle.std.specs.Prelude.{◌≡◌, ◌<◌, ◌≤◌, ◌+◌, ℕ, Bool, true, List, [], None, Option, length, slice_index, slice_set};
+ghost use Rattle.ak_core.specs.Mem.{Access, Tables, Touches, access_to, is_touched, is_writable, with_page, put_at};
 ghost use Rattle.ak_core.specs.declared.page.Kind.TheVariants.{Read, Write, Exec};
 
 use crate::{Fault, Page};
@@ -58,6 +58,11 @@ pub trait Mem {
         ensures holds { holds self.new ≡ holds self.old }
         ensures tables { tables self.new ≡ tables self.old };
 
+    /// The 4096 bytes of a page that was touched.
+    fn page(&self, p: Page) -> &[u8]
+        requires touched { is_touched (granted self.now) p.0 ≡ true }
+        ensures { result.now ≡ bytes self.now p.0 };
+
     /// A byte of a page that was touched.
     fn load(&self, p: Page, offset: u16) -> u8
         requires touched { is_touched (granted self.now) p.0 ≡ true }
@@ -69,6 +74,16 @@ pub trait Mem {
         requires touched { is_writable (granted self.old) p.0 ≡ true }
         requires offset { offset < 4096 }
         ensures bytes { bytes self.new ≡ with_page (bytes self.old) p.0 (slice_set (bytes self.old p.0) offset value) }
+        ensures holds { holds self.new ≡ holds self.old }
+        ensures tables { tables self.new ≡ tables self.old }
+        ensures granted { granted self.new ≡ granted self.old }
+        ensures refused { refused self.new ≡ refused self.old };
+
+    /// Puts bytes into a page that was touched for writing.
+    fn store_slice(&mut self, p: Page, offset: u16, from: &[u8])
+        requires touched { is_writable (granted self.old) p.0 ≡ true }
+        requires inside { offset + length from.now ≤ 4096 }
+        ensures bytes { bytes self.new ≡ with_page (bytes self.old) p.0 (put_at (bytes self.old p.0) offset from.now) }
         ensures holds { holds self.new ≡ holds self.old }
         ensures tables { tables self.new ≡ tables self.old }
         ensures granted { granted self.new ≡ granted self.old }

@@ -6,3 +6,4 @@ pub mod Unwritten
 pub mod Products
 pub mod Carrying
 pub mod InFour
+pub mod Within

@@ -27,6 +27,15 @@ pub(crate) enum Fetched {
     Refused(Fault),
 }
 
+/// The bytes of a page from an offset on.
+fn rest_of<M: Mem>(mem: &M, page: Page, from: u16) -> &[u8]
+    requires touched { is_touched (M.granted mem.now) page.0 ≡ true }
+    requires inside { from < 4096 }
+    ensures { result.now ≡ drop from (M.bytes mem.now page.0) }
+{
+    &mem.page(page)[from as usize..]
+}
+
 /// Takes the bytes of a page from an offset on, until there are enough for any encoding.
 fn take_bytes<M: Mem>(mem: &M, page: Page, from: u16, window: &mut ArrayVec<u8, LONGEST>)
     requires touched { is_touched (M.granted mem.now) page.0 ≡ true }
@@ -61,9 +70,8 @@ pub(crate) fn fetch<M: Mem>(layout: &Layout, rip: u64, mem: &mut M) -> Fetched
     if let Err(fault) = mem.touch_exec(page) {
         return Fetched::Refused(fault);
     }
-    let mut window = ArrayVec::new();
-    take_bytes(mem, page, (offset % PAGE) as u16, &mut window);
-    match decode(&window) {
+    let from = (offset % PAGE) as u16;
+    match decode(rest_of(mem, page, from)) {
         Decoded::Whole(instr, size) => Fetched::Found(instr, size),
         Decoded::Illegal => Fetched::Raised(INVALID_OPCODE),
         Decoded::NeedMore => {
@@ -71,6 +79,8 @@ pub(crate) fn fetch<M: Mem>(layout: &Layout, rip: u64, mem: &mut M) -> Fetched
             if next.0 as u64 >= pages {
                 return Fetched::Raised(GENERAL_PROTECTION);
             }
+            let mut window = ArrayVec::new();
+            take_bytes(mem, page, from, &mut window);
             fetch_across(mem, next, &mut window)
         }
     }

@@ -1,5 +1,5 @@
 // Operands in memory (SDM volume 1, "Operand Addressing").
-ghost use Rattle.std.specs.Prelude.{◌≡◌, ℕ, ◌<◌, ◌≤◌, ◌+◌, ◌-◌, ◌*◌, ◌/◌, ◌%◌, None, false, true, length, slice_index, IfNone, IfSome, IfOk, IfErr, OnOk, OnErr};
+ghost use Rattle.std.specs.Prelude.{◌≡◌, ℕ, ◌<◌, ◌≤◌, ◌+◌, ◌-◌, ◌*◌, ◌/◌, ◌%◌, None, false, true, length, take, drop, slice_index, IfNone, IfSome, IfOk, IfErr, OnOk, OnErr};
 ghost use Rattle.ak_core.specs.Layout.{Layout as Pages};
 ghost use Rattle.ak_core.specs.Mem.{Touches, access_to, is_touched, is_writable};
 ghost use Rattle.ak_core.specs.declared.page.Kind.TheVariants.{Read, Write};
@@ -97,14 +97,31 @@ fn reach<M: Mem>(
     }
 }
 
+/// Loads bytes of one page.
+#[inline(always)]
+fn load_within<M: Mem>(mem: &M, page: Page, from: usize, into: &mut [u8])
+    requires touched { is_touched (M.granted mem.now) page.0 ≡ true }
+    requires inside { from + length into.old ≤ 4096 }
+    ensures { into.new ≡ take (length into.old) (drop from (M.bytes mem.now page.0)) }
+{
+    into.copy_from_slice(&mem.page(page)[from..from + into.len()]);
+}
+
 /// Loads bytes from a place on.
+#[inline(always)]
 fn load_bytes<M: Mem>(mem: &M, place: u64, into: &mut [u8])
+    requires some { 1 ≤ length into.old }
     requires touched { (k : ℕ) → k < length into.old →
         is_touched (M.granted mem.now) ((place + k) / 4096) ≡ true }
     requires low { place + length into.old ≤ 4096 * 512 }
     ensures { (k : ℕ) → k < length into.old →
         slice_index into.new k ≡ slice_index (M.bytes mem.now ((place + k) / 4096)) ((place + k) % 4096) }
 {
+    let from = (place % PAGE) as usize;
+    if from + into.len() <= PAGE as usize {
+        load_within(mem, Page((place / PAGE) as u32), from, into);
+        return;
+    }
     for (i, byte) in into.iter_mut().enumerate() {
         let at = place + i as u64;
         *byte = mem.load(Page((at / PAGE) as u32), (at % PAGE) as u16);
@@ -112,7 +129,9 @@ fn load_bytes<M: Mem>(mem: &M, place: u64, into: &mut [u8])
 }
 
 /// Stores bytes from a place on.
+#[inline(always)]
 fn store_bytes<M: Mem>(mem: &mut M, place: u64, bytes: &[u8])
+    requires some { 1 ≤ length bytes.now }
     requires touched { (k : ℕ) → k < length bytes.now →
         is_writable (M.granted mem.old) ((place + k) / 4096) ≡ true }
     requires held { (k : ℕ) → k < length bytes.now → M.holds mem.old ((place + k) / 4096) ≡ true }
@@ -127,6 +146,11 @@ fn store_bytes<M: Mem>(mem: &mut M, place: u64, bytes: &[u8])
         Shows layout (M.holds mem.new) (M.bytes mem.new)
         (record flat { bytes = overwrite flat.bytes place bytes.now }) }
 {
+    let from = (place % PAGE) as u16;
+    if from as usize + bytes.len() <= PAGE as usize {
+        mem.store_slice(Page((place / PAGE) as u32), from, bytes);
+        return;
+    }
     for (i, byte) in bytes.iter().enumerate() {
         let at = place + i as u64;
         mem.store(Page((at / PAGE) as u32), (at % PAGE) as u16, *byte);
@@ -134,6 +158,7 @@ fn store_bytes<M: Mem>(mem: &mut M, place: u64, bytes: &[u8])
 }
 
 /// Reads an operand.
+#[inline(always)]
 pub(crate) fn read<M: Mem>(
     layout: &Layout,
     mem: &mut M,
@@ -159,6 +184,7 @@ pub(crate) fn read<M: Mem>(
 }
 
 /// Writes an operand: all of it, or no byte.
+#[inline(always)]
 pub(crate) fn write<M: Mem>(
     layout: &Layout,
     mem: &mut M,

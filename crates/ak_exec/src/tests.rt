@@ -1,6 +1,6 @@
 // Each encoding and each trap, over a memory of four pages.
-ghost use Rattle.std.specs.Prelude.{◌≡◌, ◌<◌, true, length, IfOk};
-ghost use Rattle.ak_core.specs.Mem.{Touches, access_to};
+ghost use Rattle.std.specs.Prelude.{◌≡◌, ◌<◌, ◌≤◌, ◌+◌, true, length, IfOk};
+ghost use Rattle.ak_core.specs.Mem.{Touches, access_to, put_at};
 ghost use Rattle.ak_core.specs.declared.registers.Mode.TheVariants.{Program};
 ghost use Rattle.ak_exec.specs.FourPages.{are_inside, are_whole, is_in};
 
@@ -72,6 +72,14 @@ impl FourPages {
     }
 }
 
+/// Puts bytes into a page.
+fn put_slice(page: &mut [u8; 4096], start: usize, from: &[u8])
+    requires { start + length from.now ≤ 4096 }
+    ensures { page.new ≡ put_at page.old start from.now }
+{
+    page[start..start + from.len()].copy_from_slice(from);
+}
+
 impl Mem for FourPages {
     ghost use Rattle.std.specs.Prelude.{[], false};
     ghost use Rattle.ak_exec.specs.FourPages.{page_of, length-page_of};
@@ -110,12 +118,22 @@ impl Mem for FourPages {
         self.touch(p, Kind::Exec)
     }
 
+    fn page(&self, p: Page) -> &[u8] {
+        self.pages[p.0 as usize].as_slice()
+    }
+
     fn load(&self, p: Page, offset: u16) -> u8 {
         self.pages[p.0 as usize][offset as usize]
     }
 
     fn store(&mut self, p: Page, offset: u16, value: u8) {
         self.pages[p.0 as usize][offset as usize] = value;
+    }
+
+    fn store_slice(&mut self, p: Page, offset: u16, from: &[u8]) {
+        let mut page = self.pages[p.0 as usize];
+        put_slice(&mut page, offset as usize, from);
+        self.pages[p.0 as usize] = page;
     }
 
     fn read_page(&self, p: Page, into: &mut [u8]) {

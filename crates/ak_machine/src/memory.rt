@@ -1,8 +1,8 @@
 // The program's memory: pages in frames, each touched by a walk.
-ghost use Rattle.std.specs.Prelude.{◌≡◌, ◌<◌, Some, true, false, length, slice_set};
+ghost use Rattle.std.specs.Prelude.{◌≡◌, ◌<◌, ◌≤◌, ◌+◌, Some, true, false, length, vec_len, slice_set};
 ghost use Rattle.std.specs.List.{list_all};
 ghost use Rattle.std.specs.Option.{ForSome};
-ghost use Rattle.ak_core.specs.Mem.{Touches, is_touched};
+ghost use Rattle.ak_core.specs.Mem.{Touches, is_touched, put_at};
 ghost use Rattle.ak_epcm.specs.Entries.{HasDistinctPages};
 ghost use Rattle.ak_machine.specs.Memory.{IsWhole, frame_with, is_held, tables_of, finds};
 
@@ -109,6 +109,14 @@ impl Memory {
     }
 }
 
+/// Puts bytes into a page.
+fn put(page: &mut Vec<u8>, start: usize, from: &[u8])
+    requires { start + length from.now ≤ vec_len page.old }
+    ensures { page.new.items ≡ put_at page.old.items start from.now }
+{
+    page[start..start + from.len()].copy_from_slice(from);
+}
+
 impl Mem for Memory {
     ghost use Rattle.ak_machine.specs.Memory.{is_held, bytes_of, tables_of, length-bytes_of};
 
@@ -150,6 +158,11 @@ impl Mem for Memory {
         })
     }
 
+    fn page(&self, p: Page) -> &[u8] {
+        let place = self.place_of(p);
+        self.frames[place].as_slice()
+    }
+
     fn load(&self, p: Page, offset: u16) -> u8 {
         let place = self.place_of(p);
         self.frames[place][offset as usize]
@@ -158,6 +171,11 @@ impl Mem for Memory {
     fn store(&mut self, p: Page, offset: u16, value: u8) {
         let place = self.place_of(p);
         self.frames[place][offset as usize] = value;
+    }
+
+    fn store_slice(&mut self, p: Page, offset: u16, from: &[u8]) {
+        let place = self.place_of(p);
+        put(&mut self.frames[place], offset as usize, from);
     }
 
     fn read_page(&self, p: Page, into: &mut [u8]) {

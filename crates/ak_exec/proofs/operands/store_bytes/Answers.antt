@@ -1,9 +1,11 @@
-use Rattle.std.proofs.Common.{◌≡◌, ℕ, ◌+◌, ◌/◌, ◌%◌, ◌<◌, length, get_or, refl, subst, ◌∙◌, arith}
+use Rattle.std.proofs.Common.{◌≡◌, ℕ, true, ◌+◌, ◌/◌, ◌%◌, ◌<◌, length, get_or, refl, ap, subst, ◌∙◌, arith}
 use Rattle.std.specs.Prelude.{slice_set}
 use lib.Seq.{paste}
-use Rattle.ak_core.specs.Mem.{with_page}
+use Rattle.ak_core.specs.Mem.{with_page, put_at}
+use Rattle.ak_model.specs.Flat.FlatRuns.{overwrite}
 use Rattle.ak_exec.specs.Turns.{Shows}
 use Rattle.ak_exec.proofs.Paged.{stored_more, stored_all, long_enough, shows_same}
+use Rattle.ak_exec.proofs.Within.{stored_within}
 use Rattle.ak_exec.proofs.Unwritten.{unwritten_more}
 use Rattle.ak_exec.proofs.operands.store_bytes.Goals as goal
 
@@ -32,3 +34,15 @@ returns-clause-shows g c layout flat room shows =
     let P : ℕ → Type 0 = λ n. Shows layout (g.M.Mem.holds c.loop-i.mem) (g.M.Mem.bytes c.loop-i.mem) (record flat { bytes = paste flat.bytes c.args.place c.args.bytes.now n }) in
     stored_all layout (g.M.Mem.holds c.loop-i.mem) (g.M.Mem.bytes c.loop-i.mem) flat c.args.place c.args.bytes.now
     (subst P all (c.loop-i.invariant.shows layout flat room shows))
+
+pub returns-then-from-bytes-clause-shows : goal.returns-then-from-bytes-clause-shows
+returns-then-from-bytes-clause-shows g c layout flat room shows =
+    let p = c.args.place / 4096 in
+    let old = g.M.Mem.bytes c.args.mem.now in
+    let holds = g.M.Mem.holds c.args.mem.now in
+    let held : holds p ≡ true = ap (λ (k : ℕ). holds (k / 4096)) (omega arith) ∙ c.requires.held 0 (omega arith) in
+    let long = long_enough layout holds old flat p shows (g.M.Mem.whole c.args.mem.now p) (omega arith) held in
+    shows_same layout holds (g.M.Mem.holds c.store_slice.new.self)
+    (with_page old p (put_at (old p) (c.args.place % 4096) c.args.bytes.now)) (g.M.Mem.bytes c.store_slice.new.self)
+    (record flat { bytes = overwrite flat.bytes c.args.place c.args.bytes.now }) c.store_slice.ensures.holds c.store_slice.ensures.bytes
+    (stored_within layout holds old flat c.args.place c.args.bytes.now (omega arith) (g.M.Mem.whole c.args.mem.now p) (omega arith) shows)
