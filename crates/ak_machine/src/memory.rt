@@ -110,6 +110,7 @@ impl Memory {
 }
 
 /// Puts bytes into a page.
+#[inline(always)]
 fn put(page: &mut Vec<u8>, start: usize, from: &[u8])
     requires { start + length from.now ≤ vec_len page.old }
     ensures { page.new.items ≡ put_at page.old.items start from.now }
