@@ -9,8 +9,8 @@ ghost use Rattle.ak_exec.specs.Kept.{EndsTurn};
 
 use crate::Turn;
 use crate::fetching::{Fetched, fetch};
-use crate::plain::{RSP, compute, moved};
-use crate::transfers::{load, load_byte, popped, push, return_near, store};
+use crate::plain::{compute, moved};
+use crate::transfers::{load, load_byte, pop, push, return_near, store};
 use ak_core::{Instr, Layout, Mem, Regs};
 
 /// Does an instruction of this size, which was fetched.
@@ -24,33 +24,29 @@ fn perform<M: Mem>(layout: &Layout, regs: &mut Regs, mem: &mut M, instr: Instr, 
         (M.holds mem.new) (M.bytes mem.old) (M.bytes mem.new) (M.granted mem.old) (M.granted mem.new) }
 {
     let next = regs.rip + size as u64;
-    let mut after = Regs { rip: next, ..*regs };
     match instr {
         Instr::Store { rm, disp, reg } => {
             let address = moved(regs.gpr[rm as usize], disp);
             let bytes = regs.gpr[reg as usize].to_le_bytes();
-            store(layout, regs, mem, address, &bytes, after)
+            store(layout, regs, mem, address, &bytes, next)
         }
         Instr::StoreByte { rm, disp, reg } => {
             let address = moved(regs.gpr[rm as usize], disp);
             let byte = (regs.gpr[reg as usize] % 256) as u8;
-            store(layout, regs, mem, address, &[byte], after)
+            store(layout, regs, mem, address, &[byte], next)
         }
         Instr::Load { reg, rm, disp } => {
             let address = moved(regs.gpr[rm as usize], disp);
-            load(layout, regs, mem, address, after, reg)
+            load(layout, regs, mem, address, next, reg)
         }
         Instr::LoadByte { reg, rm, disp } => {
             let address = moved(regs.gpr[rm as usize], disp);
-            load_byte(layout, regs, mem, address, after, reg)
+            load_byte(layout, regs, mem, address, next, reg)
         }
-        Instr::CallNear { rel } => {
-            after.rip = moved(next, rel);
-            push(layout, regs, mem, next, after)
-        }
-        Instr::Push { reg } => push(layout, regs, mem, regs.gpr[reg as usize], after),
-        Instr::Return => return_near(layout, regs, mem, regs.gpr[RSP], popped(after)),
-        Instr::Pop { reg } => load(layout, regs, mem, regs.gpr[RSP], popped(after), reg),
+        Instr::CallNear { rel } => push(layout, regs, mem, next, moved(next, rel)),
+        Instr::Push { reg } => push(layout, regs, mem, regs.gpr[reg as usize], next),
+        Instr::Return => return_near(layout, regs, mem),
+        Instr::Pop { reg } => pop(layout, regs, mem, next, reg),
         _ => compute(regs, instr, next),
     }
 }

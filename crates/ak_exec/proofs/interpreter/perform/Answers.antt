@@ -2,6 +2,7 @@ use Rattle.std.proofs.Common.{◌≡◌, ◌+◌, ap, sym, ◌∙◌, arith}
 use Rattle.std.proofs.lemmas.Int.{to_z-of_z}
 use Rattle.ak_core.specs.declared.registers.Regs.{Regs}
 use Rattle.ak_model.specs.Flat.Instructions.{Reads, Writes, plan, reg_of, rsp, with_reg, moved}
+use Rattle.ak_exec.specs.Carried.{popped}
 use Rattle.ak_exec.proofs.Lines.{carried_out}
 use Rattle.ak_exec.proofs.Carrying.{to_le_bytes-8, carries_as}
 use Rattle.ak_exec.proofs.interpreter.perform.Goals as goal
@@ -37,16 +38,16 @@ returns-in_default-clause-carried g c flat shows =
 
 pub returns-in-Return-clause-carried : goal.returns-in-Return-clause-carried
 returns-in-Return-clause-carried g c =
-    let next : Regs = record c.args.regs.now { rip = c.args.regs.now.rip + c.args.size } in
-    let after = λ (r : Regs). Reads (reg_of next rsp) 8 (λ v. record r { rip = v }) in
-    carries_as c.args.layout.now (after c.popped.result) (plan c.args.instr next) c.return_near.result c.return_near.new.regs
+    let regs = c.args.regs.now in
+    let next : Regs = record regs { rip = regs.rip + c.args.size } in
+    carries_as c.args.layout.now (Reads (reg_of regs rsp) 8 (λ v. record (popped regs) { rip = v })) (plan c.args.instr next) c.return_near.result c.return_near.new.regs
     (g.M.Mem.holds c.return_near.new.mem) (g.M.Mem.bytes c.args.mem.now) (g.M.Mem.bytes c.return_near.new.mem) (g.M.Mem.granted c.args.mem.now) (g.M.Mem.granted c.return_near.new.mem)
-    (ap after c.popped.ensures ∙ ap (λ i. plan i next) (sym c.in-Return.is)) c.return_near.ensures.carried
+    (ap (λ i. plan i next) (sym c.in-Return.is)) c.return_near.ensures.carried
 
 pub returns-in-Pop-clause-carried : goal.returns-in-Pop-clause-carried
 returns-in-Pop-clause-carried g c =
-    let next : Regs = record c.args.regs.now { rip = c.args.regs.now.rip + c.args.size } in
-    let after = λ (r : Regs). Reads (reg_of next rsp) 8 (λ v. with_reg r c.in-Pop.reg v) in
-    carries_as c.args.layout.now (after c.popped-in-Pop.result) (plan c.args.instr next) c.load-in-Pop.result c.load-in-Pop.new.regs
-    (g.M.Mem.holds c.load-in-Pop.new.mem) (g.M.Mem.bytes c.args.mem.now) (g.M.Mem.bytes c.load-in-Pop.new.mem) (g.M.Mem.granted c.args.mem.now) (g.M.Mem.granted c.load-in-Pop.new.mem)
-    (ap after c.popped-in-Pop.ensures ∙ ap (λ i. plan i next) (sym c.in-Pop.is)) c.load-in-Pop.ensures.carried
+    let regs = c.args.regs.now in
+    let next : Regs = record regs { rip = regs.rip + c.args.size } in
+    carries_as c.args.layout.now (Reads (reg_of regs rsp) 8 (λ v. with_reg (popped next) c.in-Pop.reg v)) (plan c.args.instr next) c.pop.result c.pop.new.regs
+    (g.M.Mem.holds c.pop.new.mem) (g.M.Mem.bytes c.args.mem.now) (g.M.Mem.bytes c.pop.new.mem) (g.M.Mem.granted c.args.mem.now) (g.M.Mem.granted c.pop.new.mem)
+    (ap (λ i. plan i next) (sym c.in-Pop.is)) c.pop.ensures.carried

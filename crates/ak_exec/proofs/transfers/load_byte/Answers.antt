@@ -7,7 +7,7 @@ use Rattle.ak_exec.proofs.transfers.load_byte.Goals as goal
 
 pub returns-in-Ok-clause-carried : goal.returns-in-Ok-clause-carried
 returns-in-Ok-clause-carried g c flat shows =
-    let after = λ (v : ℕ). let f : Flat = record { regs = with_reg c.args.after c.args.reg (reg_of c.args.after c.args.reg / 256 * 256 + v); bytes = flat.bytes } in f in
+    let after = λ (v : ℕ). let f : Flat = record { regs = with_reg (record c.args.regs.now { rip = c.args.next }) c.args.reg (reg_of c.args.regs.now c.args.reg / 256 * 256 + v); bytes = flat.bytes } in f in
     let old = shows_same c.args.layout.now (g.M.Mem.holds c.read.new.mem) (g.M.Mem.holds c.args.mem.now) (g.M.Mem.bytes c.args.mem.now) (g.M.Mem.bytes c.args.mem.now) flat (sym c.in-Ok.ensures.same.holds) refl shows in
     let new = shows_same c.args.layout.now (g.M.Mem.holds c.read.new.mem) (g.M.Mem.holds c.read.new.mem) (g.M.Mem.bytes c.args.mem.now) (g.M.Mem.bytes c.read.new.mem) flat refl c.in-Ok.ensures.same.bytes shows in
     let value : get_or c.read.new.into 0 0 ≡ le_value (bytes_at c.args.layout.now flat c.args.address 1) =
