@@ -148,6 +148,7 @@ impl Mem for FourPages {
 }
 
 /// A layout of four program pages at `BASE`.
+#[tactic(auto, unfolding(ak_core::specs::Layout::enclave_size))]
 fn four_pages(rt: &HostRuntime) -> Result<Layout, Fail> {
     let perms = [Perm::Rx, Perm::Rx, Perm::Rw, Perm::Rw].to_vec(rt.alloc())?;
     let cluster_of = [0, 0, 0, 0].to_vec(rt.alloc())?;
