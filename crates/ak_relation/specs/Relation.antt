@@ -2,3 +2,4 @@
 pub mod Stands
 pub mod Does
 pub mod TurnByTurn
+pub mod MoveByMove
