@@ -3,3 +3,4 @@ pub mod Stands
 pub mod Does
 pub mod TurnByTurn
 pub mod MoveByMove
+pub mod Example

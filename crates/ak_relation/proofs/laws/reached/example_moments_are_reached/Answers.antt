@@ -1,0 +1,6 @@
+use Rattle.ak_relation.proofs.Rows.BuiltMachine.{built_reached}
+use Rattle.ak_relation.proofs.Rows.EnteredMachine.{entered_reached, interrupted_reached}
+use Rattle.ak_relation.proofs.laws.reached.example_moments_are_reached.Goals as goal
+
+pub returns : goal.returns
+returns c = record { built = built_reached; entered = entered_reached; interrupted = interrupted_reached }
