@@ -2,3 +2,5 @@
 pub mod BlankPages
 pub mod BuiltMachine
 pub mod EnteredMachine
+pub mod WrittenMachine
+pub mod ResumedMachine

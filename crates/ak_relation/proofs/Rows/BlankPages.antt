@@ -1,7 +1,7 @@
 -- Pages of zeros, and pages with few other bytes.
-use Rattle.std.proofs.Common.{◌≡◌, ℕ, zero, suc, ◌+◌, ◌-◌, ◌*◌, List, ◌∷◌, ◌++◌, length, take, drop, refl, ap, ◌∙◌, arith}
+use Rattle.std.proofs.Common.{◌≡◌, ℕ, zero, suc, ◌+◌, ◌-◌, ◌*◌, List, ◌∷◌, ◌++◌, length, take, drop, refl, ap, sym, ◌∙◌, arith}
 use Rattle.std.proofs.lemmas.List.{length-replicate, drop-replicate, length-append, drop_at, take_all}
-use Rattle.std.specs.Prelude.{replicate}
+use Rattle.std.specs.Prelude.{false, replicate, ◌==◌}
 use Rattle.ak_model.specs.Flat.Instructions.{le_value}
 use Rattle.ak_relation.specs.Bytes.SavedFrames.{number_at}
 
@@ -75,3 +75,25 @@ pub area_has : (frame : List ℕ) → length frame ≡ 200 → take 200 (drop 38
 unfolding area_with
 area_has frame size =
     ap (take 200) (drop_at (replicate 3896 0) frame 3896 (length-replicate {A = ℕ} 3896 0)) ∙ take_all 200 frame (omega arith)
+
+-- a VA page with versions in its first two slots
+unfoldable pub two_slots : List ℕ
+two_slots = 1 ∷ 0 ∷ 0 ∷ 0 ∷ 0 ∷ 0 ∷ 0 ∷ 0 ∷ 2 ∷ replicate 4087 0
+
+pub two_slots_whole : length two_slots ≡ 4096
+unfolding two_slots
+two_slots_whole = ap (λ n. 9 + n) (length-replicate {A = ℕ} 4087 0)
+
+pub second_slot : number_at two_slots 8 8 ≡ 2
+unfolding two_slots
+second_slot = refl
+
+-- all slots but the second are those of the other page
+pub other_than_second : (j : ℕ) → (j == 1) ≡ false → number_at two_slots (8 * j) 8 ≡ number_at one_slot (8 * j) 8
+unfolding one_slot two_slots
+other_than_second zero other = refl
+other_than_second (suc zero) other = absurd (cc)
+other_than_second (suc (suc j)) other =
+    let e : 8 * suc (suc j) ≡ suc (suc (suc (suc (suc (suc (suc (suc (suc (7 + 8 * j))))))))) = omega arith in
+    ap (λ place. number_at (1 ∷ 0 ∷ 0 ∷ 0 ∷ 0 ∷ 0 ∷ 0 ∷ 0 ∷ 2 ∷ replicate 4087 0) place 8) e ∙ zero_at 4087 (7 + 8 * j) 8
+    ∙ sym (other_slots (suc j))

@@ -87,7 +87,7 @@ entered_reached = (entered, record { valid = valid_a; moves = enter_reached })
 abbrev pub its_frame : SavedFrame
 its_frame = record { regs = its_regs; cause = NoCause }
 
-frame_size : length (frame_bytes one_page its_frame) ≡ 200
+pub frame_size : length (frame_bytes one_page its_frame) ≡ 200
 unfolding frame_bytes
 frame_size = refl
 
@@ -107,7 +107,7 @@ saved_whole f = by (f == 2) (f == 3)
 abbrev pub interrupted : State
 interrupted = record built { frames = saved_frames; track = LeavesBy 0 ∷ EntersBy 0 ∷ [] }
 
-its_words : AreRegs its_regs
+pub its_words : AreRegs its_regs
 its_words =
     let low : 7 < 2 ^ 64 = omega arith in
     let zero : 0 < 2 ^ 64 = omega arith in
