@@ -7,3 +7,4 @@ pub mod Program
 pub mod Exits
 pub mod Runtime
 pub mod Runs
+pub mod Rows

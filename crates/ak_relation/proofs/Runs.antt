@@ -5,3 +5,4 @@ pub mod StillMoves
 pub mod WholeRuns
 pub mod OutsideMoves
 pub mod BuiltStands
+pub mod TracedMoves

@@ -2,3 +2,5 @@
 pub mod Stands
 pub mod Does
 pub mod TurnByTurn
+pub mod MoveByMove
+pub mod Example

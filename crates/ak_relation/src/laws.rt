@@ -6,5 +6,6 @@ pub mod definitions;
 pub mod entering;
 pub mod leaves;
 pub mod program;
+pub mod reached;
 pub mod runs;
 pub mod runtime;

@@ -31,7 +31,8 @@ module _ (layout : Layout) (image : List ℕ) (past : History) (control : Contro
   -- it has all bytes of the program's pages
   pub flat_whole : 4096 * pages layout ≤ length h.bytes.flat.bytes
   flat_whole =
-      let whole : 4096 * pages layout ≤ length image = h.inputs.whole in
+      let exact : length image ≡ 4096 * pages layout = h.inputs.whole in
+      let whole : 4096 * pages layout ≤ length image = omega arith in
       let same : length h.bytes.flat.bytes ≡ length image = at_all layout image control.returned whole (owing control) control.count h.bytes.flat h.bytes.program in
       omega arith
 

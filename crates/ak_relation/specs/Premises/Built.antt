@@ -1,6 +1,6 @@
--- What the build leaves of an image of bytes, one page of them at least for each page of the program: tables and pages as they are at
+-- What the build leaves of an image of bytes, 4096 for each page of the program: tables and pages as they are at
 -- the start, and nobody inside.
-use Rattle.std.specs.Prelude.{◌≡◌, ℕ, ◌*◌, ◌≤◌, false, List, [], length}
+use Rattle.std.specs.Prelude.{◌≡◌, ℕ, ◌*◌, false, List, [], length}
 use Rattle.ak_core.specs.Layout.{Layout}
 use Rattle.ak_model.specs.Paging.Build.{queue_at_build}
 use Rattle.ak_model.specs.Paging.Pages.{pages}
@@ -19,7 +19,7 @@ first_state layout image = (first_run layout image []).flat
 -- after the build of an image
 pub record IsBuilt (layout : Layout) (image : List ℕ) (state : State) : Type 0 where
   pub bytes : AreBytes image
-  pub whole : 4096 * pages layout ≤ length image
+  pub whole : length image ≡ 4096 * pages layout
   pub tables : TablesStand layout [] state
   pub pages : CopiesStand layout New (queue_at_build layout.build layout) [] false (first_state layout image) (copies_at layout [] state)
   pub count : state.count ≡ 0

@@ -1,5 +1,5 @@
 -- What an enclave is given: a layout, an image, and the values that enterings bring.
-use Rattle.std.specs.Prelude.{ℕ, ◌*◌, ◌^◌, ◌<◌, ◌≤◌, List, [], ◌∷◌, length, Option, Some, None}
+use Rattle.std.specs.Prelude.{◌≡◌, ℕ, ◌*◌, ◌^◌, ◌<◌, List, [], ◌∷◌, length, Option, Some, None}
 use Rattle.ak_core.specs.Layout.{Layout, IsValid}
 use Rattle.ak_model.specs.Paging.Pages.{pages}
 use Rattle.ak_model.specs.Control.ControlState.{Context, Enter, Saved, Control}
@@ -33,9 +33,9 @@ abbrev pub TurnHasWords : Turn → Type 0
 TurnHasWords (Goes control) = HasWords control
 TurnHasWords (Leaves exit control) = HasWords control
 
--- the layout is valid, the image is one of bytes with 4096 at least for each page of the program, and the values have 64 bits
+-- the layout is valid, the image is one of bytes with 4096 for each page of the program, and the values have 64 bits
 pub record InputsStand (layout : Layout) (image : List ℕ) (control : Control) : Type 0 where
   pub valid : IsValid layout
   pub bytes : AreBytes image
-  pub whole : 4096 * pages layout ≤ length image
+  pub whole : length image ≡ 4096 * pages layout
   pub words : HasWords control

@@ -1,0 +1,6 @@
+-- Machines of an example that the relation holds of, computed.
+pub mod BlankPages
+pub mod BuiltMachine
+pub mod EnteredMachine
+pub mod WrittenMachine
+pub mod ResumedMachine

@@ -1,0 +1,58 @@
+-- An example: an enclave of one page, and moments of it that some machine reaches.
+use Rattle.std.specs.Prelude.{ℕ, List, [], ◌∷◌, replicate}
+use Rattle.ak_core.specs.Layout.{Layout}
+use Rattle.ak_core.specs.declared.build.Build.TheVariants.{Sealed}
+use Rattle.ak_core.specs.declared.page.Perm.TheVariants.{Rw, Rx}
+use Rattle.ak_core.specs.declared.moves.Move.TheVariants.{SetPte, Eblock, Etrack, Ewb, Eldu, Eenter, Eresume, Interrupt}
+use Rattle.ak_core.specs.declared.moves.Answer.TheVariants.{Ok, OkHandle}
+use Rattle.ak_model.specs.Paging.Histories.{History}
+use Rattle.ak_model.specs.Paging.Pages.{flags_for}
+use Rattle.ak_relation.specs.State.MachineState.{State}
+use Rattle.ak_relation.specs.Relation.MoveByMove.{HasMoved}
+
+-- one page that may be read and executed, sealed by the build; nine frames and one processor
+abbrev pub one_page : Layout
+one_page =
+    record { base = 268435456; entry = 0; perms = Rx ∷ []; cluster_of = 0 ∷ []; clusters = 1; budget = 1; frames = 9; lps = 1; build = Sealed }
+
+-- its image: instructions that do nothing
+unfoldable pub no_operations : List ℕ
+no_operations = replicate 4096 144
+
+-- after the build nothing has happened
+abbrev pub built_past : History
+built_past = []
+
+-- then the processor enters, with a value
+abbrev pub entered_past : History
+entered_past = (Eenter (record { 0 = 0 }) 7, Ok) ∷ built_past
+
+-- and is interrupted
+abbrev pub interrupted_past : History
+interrupted_past = (Interrupt (record { 0 = 0 }), Ok) ∷ entered_past
+
+-- the area of its saved frame is blocked, and a cycle begins
+abbrev pub blocked_past : History
+blocked_past = (Eblock (record { 0 = 3 }), Ok) ∷ interrupted_past
+
+abbrev pub cycled_past : History
+cycled_past = (Etrack, Ok) ∷ blocked_past
+
+-- it is written out
+abbrev pub written_past : History
+written_past = (Ewb (record { 0 = 3 }) (record { 0 = 1 }) 1, OkHandle (record { 0 = 1 })) ∷ cycled_past
+
+-- it is loaded into the last frame, and mapped there
+abbrev pub loaded_past : History
+loaded_past = (Eldu (record { 0 = 8 }) (record { 0 = 1 }) (record { 0 = 2 }) (record { 0 = 1 }) 1, Ok) ∷ written_past
+
+abbrev pub mapped_past : History
+mapped_past = (SetPte (record { 0 = 2 }) (record { 0 = 8 }) (flags_for Rw), Ok) ∷ loaded_past
+
+-- and the processor is resumed from it
+abbrev pub resumed_past : History
+resumed_past = (Eresume (record { 0 = 0 }), Ok) ∷ mapped_past
+
+-- some machine went through these moves, with no event of the program
+abbrev pub IsReached : History → Type 0
+IsReached past = (state : State) × HasMoved one_page no_operations past state []
