@@ -13,3 +13,4 @@ pub mod OneInsideTrace
 pub mod RunEnds
 pub mod MoveCases
 pub mod QueueStays
+pub mod LeafRows

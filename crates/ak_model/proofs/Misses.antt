@@ -7,3 +7,4 @@ pub mod MissesInARow
 pub mod IdealMisses
 pub mod FewMisses
 pub mod SoundMissesFit
+pub mod Granted

@@ -13,3 +13,8 @@ pub mod ChangesByAnswer
 pub mod Readings
 pub mod SomeoneInside
 pub mod LostBySomeMove
+pub mod DescendingCycles
+pub mod ConcernedPages
+pub mod SincePast
+pub mod WaitingFor
+pub mod OpenFrames

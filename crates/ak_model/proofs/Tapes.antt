@@ -14,3 +14,11 @@ pub mod RunComesToTurns
 pub mod EventsTaken
 pub mod CompletedTurns
 pub mod TurnMoments
+pub mod EarlierTurns
+pub mod CountedBreaks
+pub mod LongerRuns
+pub mod Calls
+pub mod CallTurns
+pub mod ShownSteps
+pub mod ShownAnswers
+pub mod CallTraces

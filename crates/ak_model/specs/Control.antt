@@ -4,6 +4,7 @@ pub mod OneTurn
 pub mod RuntimeTurn
 pub mod EventTurn
 pub mod Runs
+pub mod LeafRows
 pub mod Answers
 pub mod Entering
 pub mod Trace
@@ -13,6 +14,7 @@ pub use OneTurn.*
 pub use RuntimeTurn.*
 pub use EventTurn.*
 pub use Runs.*
+pub use LeafRows.*
 pub use Answers.*
 pub use Entering.*
 pub use Trace.*

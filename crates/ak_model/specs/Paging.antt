@@ -9,6 +9,7 @@ pub mod PageTable
 pub mod Inside
 pub mod Tracking
 pub mod Walk
+pub mod Views
 pub use Pages.*
 pub use Holdings.*
 pub use Build.*
@@ -19,3 +20,4 @@ pub use PageTable.*
 pub use Inside.*
 pub use Tracking.*
 pub use Walk.*
+pub use Views.*

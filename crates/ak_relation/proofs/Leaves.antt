@@ -1,9 +1,5 @@
 -- Lemmas on the leaf instructions of the kernel and its page table.
-pub mod LeafRows
 pub mod ViewStands
-pub mod Concerns
-pub mod WaitingFor
-pub mod OpenFrames
 pub mod Fewer
 pub mod Refused
 pub mod LeafStands

@@ -1,7 +1,4 @@
 -- Lemmas on turns of the program that complete an instruction.
-pub mod Calls
-pub mod CallTurns
-pub mod Granted
 pub mod LongerTurns
 pub mod TurnWords
 pub mod Seen

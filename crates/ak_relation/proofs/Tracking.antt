@@ -1,5 +1,4 @@
 -- Lemmas on tracking by steps and stamps.
-pub mod TrackSteps
 pub mod TrackBounds
 pub mod TrackLines
 pub mod TrackedBy

@@ -1,7 +1,6 @@
 -- Where the program is, what it sees, and what stands of its turns.
 pub mod FlatPlaces
 pub mod FlatFits
-pub mod Calls
 pub mod Inputs
 pub mod Turns
 pub mod Reaching

@@ -1,8 +1,6 @@
 -- A machine's tables, pages and processors as plain values; what each table stands for; and the view of them that rows read.
-pub mod View
 pub mod MachineView
 pub mod MachineState
 pub mod TrackSteps
 pub mod Tables
-pub mod Concerns
 pub mod TableChanges

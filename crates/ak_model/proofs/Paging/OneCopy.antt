@@ -1,6 +1,6 @@
 -- In every trace, a page is in a frame exactly where its place says so, and no older handle of it can be loaded.
 use Rattle.std.proofs.Common.{◌≡◌, ℕ, ◌+◌, ◌-◌, ◌<◌, List, [], ◌∷◌, arith, refl, ap, sym, ◌∙◌, subst}
-use Rattle.std.specs.Prelude.{Bool, true, false, not, ◌&&◌, if◌then◌else◌, Option, Some, None, is_some, is_none, nat_lt, ◌==◌}
+use Rattle.std.specs.Prelude.{Bool, true, false, not, ◌&&◌, if◌then◌else◌, Option, Some, None, is_some, nat_lt, ◌==◌}
 use Rattle.std.specs.Bool.{then_some}
 use Rattle.std.proofs.lemmas.Bool.{eqb-true, ltb-true, and_parts, not-true, not-false}
 use Rattle.std.proofs.lemmas.Bool.Decides.{nat_tests}
@@ -10,7 +10,7 @@ use Rattle.ak_core.specs.declared.page.Handle.{Handle}
 use Rattle.ak_core.specs.declared.moves.Move.{Move}
 use Rattle.ak_core.specs.declared.moves.Move.TheVariants.{ReadPte, Ewb, Eldu, Eldb, Epa, Discard, Run}
 use Rattle.ak_core.specs.declared.moves.Answer.{Answer}
-use Rattle.ak_core.specs.declared.moves.Answer.TheVariants.{Ok, OkHandle, NotEpc, IsSecs, InUse, NotBlocked, NotTracked, BadVa, SlotOccupied, MacFail, NoHandle}
+use Rattle.ak_core.specs.declared.moves.Answer.TheVariants.{Ok, OkHandle, InUse, NotBlocked, NotTracked, BadVa, SlotOccupied, MacFail, NoHandle}
 use Rattle.ak_core.specs.declared.build.Build.{Build}
 use Rattle.ak_core.specs.declared.build.Build.TheVariants.{Resident, Sealed as SealedBuild}
 use Rattle.ak_model.specs.Paging.Build.{later_frame, program_place, slot_at_build, given_at_build, page_of_at_build}
@@ -21,9 +21,12 @@ use Rattle.ak_model.specs.Paging.Frames.{held, held_after, blocked_at}
 use Rattle.ak_model.specs.Paging.Handles.{given, given_after, page_of, page_of_after, page_after, discarded, discarded_after, live, slot, slot_after, place, place_after}
 use Rattle.ak_model.specs.Paging.Tracking.{tracked}
 use Rattle.ak_model.specs.Control.ControlState.{Control}
-use Rattle.ak_model.specs.Control.Answers.{answer, if_frame, if_page, is_slot, write_out_answer, mac_answer, load_answer, va_answer}
+use Rattle.ak_model.specs.Paging.Views.{view_of}
+use Rattle.ak_model.specs.Control.LeafRows.{if_page, has_slot, write_out_row, mac_row, load_row, va_row}
+use Rattle.ak_model.specs.Control.Answers.{answer}
 use Rattle.ak_model.specs.Control.Trace.{trace}
 use Rattle.ak_model.specs.Laws.OneLiveCopy.{Agrees, OneCopy}
+use Rattle.ak_model.proofs.Control.LeafRows.{frame_ok}
 use Rattle.ak_model.proofs.Paging.SomeoneInside.{other}
 use Rattle.ak_model.proofs.Paging.ChangesByAnswer.{ok_holds, handle_holds, exit_holds}
 use Rattle.ak_model.proofs.Paging.LiveCopies.{loads, writes_out, removes, frees, makes_va, discards}
@@ -87,15 +90,12 @@ module _ (layout : Layout) where
   free_if VaFrame h = absurd (cc)
   free_if (PageFrame p) h = absurd (cc)
 
-  pub frame_ok : (f : ℕ) (a z : Answer) → (NotEpc ≡ z → ⊥) → (IsSecs ≡ z → ⊥) → if_frame layout f a ≡ z → a ≡ z
-  frame_ok f a z n s h = (other (f == 0) IsSecs a z s (other (not (nat_lt f layout.frames)) NotEpc _ z n h).1).1
-
   live_kept : (past : History) (k : ℕ) → live layout past k ≡ true → (k < given layout past) × (discarded past k ≡ false)
   live_kept past k h =
       let a = and_parts (nat_lt k (given layout past)) (not (discarded past k)) h in
       (ltb-true k (given layout past) a.0, not-true (discarded past k) a.1)
 
-  mac_kept : (past : History) (o : Option ℕ) (k p : ℕ) → mac_answer layout past o k p ≡ Ok → (o ≡ Some k) × (page_of layout past k ≡ p)
+  mac_kept : (past : History) (o : Option ℕ) (k p : ℕ) → mac_row (view_of layout past) o k p ≡ Ok → (o ≡ Some k) × (page_of layout past k ≡ p)
   mac_kept past None k p h = absurd (cc)
   mac_kept past (Some j) k p h = both ((j == k) && (page_of layout past k == p)) refl h
     where
@@ -105,11 +105,11 @@ module _ (layout : Layout) where
           (ap Some (eqb-true j k a.0), eqb-true (page_of layout past k) p a.1)
       both false e h = absurd (cc)
 
-  pub load_fair : (past : History) (f k p va i : ℕ) (blocked : Bool) → load_answer layout past f k p va i ≡ Ok → Fair past (Loads f k p va i blocked)
+  pub load_fair : (past : History) (f k p va i : ℕ) (blocked : Bool) → load_row (view_of layout past) f k p va i ≡ Ok → Fair past (Loads f k p va i blocked)
   load_fair past f k p va i blocked h =
-      let a = frame_ok f _ Ok (λ e. cc) (λ e. cc) h in
+      let a = frame_ok (view_of layout past) f _ Ok (λ e. cc) (λ e. cc) h in
       let b = other (not (is_free (held layout past f))) InUse _ Ok (λ e. cc) a in
-      let c = other (not (is_slot layout past va i)) BadVa _ Ok (λ e. cc) b.1 in
+      let c = other (not (has_slot (view_of layout past) va i)) BadVa _ Ok (λ e. cc) b.1 in
       let d = other (not (live layout past k)) NoHandle _ Ok (λ e. cc) c.1 in
       let m = mac_kept past (slot layout past va i) k p d.1 in
       let l = live_kept past k (not-false (live layout past k) d.0) in
@@ -121,19 +121,19 @@ module _ (layout : Layout) where
   page_if VaFrame a k h = absurd (cc)
   page_if (PageFrame q) a k h = ((q, refl), h)
 
-  out_fair : (past : History) (f va i : ℕ) (k : Handle) → write_out_answer layout past f va i ≡ OkHandle k → Fair past (WritesOut f va i k.0)
+  out_fair : (past : History) (f va i : ℕ) (k : Handle) → write_out_row (view_of layout past) f va i ≡ OkHandle k → Fair past (WritesOut f va i k.0)
   out_fair past f va i k h =
-      let a = frame_ok f _ (OkHandle k) (λ e. cc) (λ e. cc) h in
+      let a = frame_ok (view_of layout past) f _ (OkHandle k) (λ e. cc) (λ e. cc) h in
       let b = page_if (held layout past f) _ k a in
-      let c = other (is_none (blocked_at past f)) NotBlocked _ (OkHandle k) (λ e. cc) b.1 in
+      let c = other (not (is_some (blocked_at past f))) NotBlocked _ (OkHandle k) (λ e. cc) b.1 in
       let d = other (not (tracked layout past f)) NotTracked _ (OkHandle k) (λ e. cc) c.1 in
-      let e = other (not (is_slot layout past va i)) BadVa _ (OkHandle k) (λ e. cc) d.1 in
+      let e = other (not (has_slot (view_of layout past) va i)) BadVa _ (OkHandle k) (λ e. cc) d.1 in
       let g = other (is_some (slot layout past va i)) SlotOccupied _ (OkHandle k) (λ e. cc) e.1 in
       let same : (let next : Handle = record { 0 = given layout past } in next) ≡ k = cc in
       (b.0, sym (ap (λ x. x.0) same))
 
-  pub va_fair : (past : History) (f : ℕ) → va_answer layout past f ≡ Ok → held layout past f ≡ FreeFrame
-  va_fair past f h = freed (is_free (held layout past f)) refl (frame_ok f _ Ok (λ e. cc) (λ e. cc) h)
+  pub va_fair : (past : History) (f : ℕ) → va_row (view_of layout past) f ≡ Ok → held layout past f ≡ FreeFrame
+  va_fair past f h = freed (is_free (held layout past f)) refl (frame_ok (view_of layout past) f _ Ok (λ e. cc) (λ e. cc) h)
     where
       freed : (b : Bool) → is_free (held layout past f) ≡ b → (if b then Ok else InUse) ≡ Ok → held layout past f ≡ FreeFrame
       freed true e h = free_if (held layout past f) e

@@ -1,7 +1,7 @@
 -- A page that a frame held unblocked at some moment since a processor entered stays there while that processor is inside: a
 -- cycle after its block waits for the processor, and no page is removed while one is inside.
 use Rattle.std.proofs.Common.{◌≡◌, inl, inr, ℕ, zero, suc, ◌+◌, ◌<◌, ◌≤◌, List, [], ◌∷◌, length, drop, map, arith, refl, ap, sym, subst, length-drop}
-use Rattle.std.specs.Prelude.{Bool, true, false, not, ◌&&◌, ◌||◌, filter, cond, if◌then◌else◌, Option, Some, None, is_none, nat_lt, nat_le, ◌==◌}
+use Rattle.std.specs.Prelude.{Bool, true, false, not, ◌&&◌, ◌||◌, filter, cond, if◌then◌else◌, Option, Some, None, is_some, is_none, nat_lt, nat_le, ◌==◌}
 use Rattle.std.specs.List.{list_any}
 use Rattle.std.proofs.lemmas.Bool.{eqb-true, eq-eqb, ltb-true, leb-true, and_parts, not-false, or_left, or_right, or_cases}
 use Rattle.ak_core.specs.Layout.{Layout}
@@ -23,12 +23,15 @@ use Rattle.ak_model.specs.Paging.Walk.{is_preset, flags_allow, is_in_frame, acce
 use Rattle.ak_model.specs.Misses.Reached.{reached_since}
 use Rattle.ak_model.specs.Clusters.Queue.{is_in}
 use Rattle.ak_model.specs.Control.ControlState.{Control}
-use Rattle.ak_model.specs.Control.Answers.{answer, write_out_answer, remove_by}
+use Rattle.ak_model.specs.Paging.Views.{view_of}
+use Rattle.ak_model.specs.Control.LeafRows.{write_out_row, remove_by_row}
+use Rattle.ak_model.specs.Control.Answers.{answer}
 use Rattle.ak_model.specs.Control.Trace.{trace}
 use Rattle.ak_model.proofs.Paging.Tests.{any_in_range, or_other}
 use Rattle.ak_model.proofs.Paging.ChangesByAnswer.{ok_holds, handle_holds, exit_holds}
 use Rattle.ak_model.proofs.Paging.WaitingCycles.{cycles-wait}
-use Rattle.ak_model.proofs.Paging.OneCopy.{frame_ok, load_fair, page_if, va_fair}
+use Rattle.ak_model.proofs.Paging.OneCopy.{load_fair, page_if, va_fair}
+use Rattle.ak_model.proofs.Control.LeafRows.{frame_ok}
 use Rattle.ak_model.proofs.Paging.SomeoneInside.{other, is_someone}
 use Rattle.ak_model.proofs.Paging.InsideIsOfLayout.{placed}
 
@@ -42,15 +45,15 @@ module _ (layout : Layout) where
   Fair past (Removes f) = (p : ℕ) → held layout past f ≡ PageFrame p → someone_inside layout past ≡ false
   Fair past _ = Unit {0}
 
-  out_fair : (past : History) (f va i : ℕ) (k : Handle) → write_out_answer layout past f va i ≡ OkHandle k → tracked layout past f ≡ true
+  out_fair : (past : History) (f va i : ℕ) (k : Handle) → write_out_row (view_of layout past) f va i ≡ OkHandle k → tracked layout past f ≡ true
   out_fair past f va i k h =
-      let a = frame_ok layout f _ (OkHandle k) (λ e. cc) (λ e. cc) h in
+      let a = frame_ok (view_of layout past) f _ (OkHandle k) (λ e. cc) (λ e. cc) h in
       let b = page_if layout (held layout past f) _ k a in
-      let c = other (is_none (blocked_at past f)) NotBlocked _ (OkHandle k) (λ e. cc) b.1 in
+      let c = other (not (is_some (blocked_at past f))) NotBlocked _ (OkHandle k) (λ e. cc) b.1 in
       let d = other (not (tracked layout past f)) NotTracked _ (OkHandle k) (λ e. cc) c.1 in
       not-false (tracked layout past f) d.0
 
-  removed_by : (active : Bool) (frame : Held) (p : ℕ) → remove_by active frame ≡ Ok → frame ≡ PageFrame p → active ≡ false
+  removed_by : (active : Bool) (frame : Held) (p : ℕ) → remove_by_row active frame ≡ Ok → frame ≡ PageFrame p → active ≡ false
   removed_by false frame p h e = refl
   removed_by true FreeFrame p h e = absurd (cc)
   removed_by true SecsFrame p h e = absurd (cc)
@@ -62,7 +65,7 @@ module _ (layout : Layout) where
   fair past control (Ewb f va i) = handle_holds (Fair past) tt (answer layout past control (Ewb f va i)) _ (out_fair past f.0 va.0 i)
   fair past control (Eldu f k p va i) = ok_holds (Fair past) tt (answer layout past control (Eldu f k p va i)) _ (λ h. (load_fair layout past f.0 k.0 p.0 va.0 i false h).0)
   fair past control (Eldb f k p va i) = ok_holds (Fair past) tt (answer layout past control (Eldb f k p va i)) _ (λ h. (load_fair layout past f.0 k.0 p.0 va.0 i true h).0)
-  fair past control (Eremove f) = ok_holds (Fair past) tt (answer layout past control (Eremove f)) _ (λ h p e. removed_by (someone_inside layout past) (held layout past f.0) p (frame_ok layout f.0 _ Ok (λ x. cc) (λ x. cc) h) e)
+  fair past control (Eremove f) = ok_holds (Fair past) tt (answer layout past control (Eremove f)) _ (λ h p e. removed_by (someone_inside layout past) (held layout past f.0) p (frame_ok (view_of layout past) f.0 _ Ok (λ x. cc) (λ x. cc) h) e)
   fair past control (Epa f) = ok_holds (Fair past) tt (answer layout past control (Epa f)) _ (va_fair layout past f.0)
   fair past control (Run lp n) = exit_holds (Fair past) tt (answer layout past control (Run lp n)) (λ exit. Exits lp.0 exit) (λ exit. tt)
   fair past control m = ok_holds (Fair past) tt (answer layout past control m) _ (λ h. tt)

@@ -9,6 +9,7 @@ use Rattle.ak_model.specs.Kernels.Counted.{saved_after, pending_after, Service, 
 use Rattle.ak_model.specs.Stops.Blame.{faults, enters_at_one, resumes}
 use Rattle.ak_model.specs.Kernels.KernelRules.{entered_after}
 use Rattle.ak_model.specs.Stops.ShownStop.{says_stopped}
+use Rattle.ak_model.specs.Laws.ShownOutputs.{output_of_change}
 
 -- all that is read of a change to know who is inside, how the control state stands and which move is blamed; a proof that reads
 -- more of it adds a field
@@ -22,6 +23,7 @@ pub record Reading : Type 0 where
   pub resumes : Bool
   pub faults : Bool
   pub stopped : Bool
+  pub output : Option ℕ
 
 abbrev pub reading : Change → Reading
 reading c = record {
@@ -34,6 +36,7 @@ reading c = record {
   resumes = resumes c;
   faults = faults c;
   stopped = says_stopped c;
+  output = output_of_change c;
 }
 
 -- somebody is inside after a change of which this is read

@@ -85,10 +85,10 @@ module _ (layout : Layout) where
   -- ---- A tape with more events
 
   module _ (more : List Event) where
-    abbrev longer : List Event → List Event
+    abbrev pub longer : List Event → List Event
     longer rest = rest ++ more
 
-    abbrev Before : List Event → ℕ → Type 0
+    abbrev pub Before : List Event → ℕ → Type 0
     Before rest count = IsLater more count
 
     later_down : (events : List Event) (m n : ℕ) → m ≤ n → IsLater events n → IsLater events m

@@ -30,7 +30,7 @@ tape_map g control = record control { rest = g control.rest }
 abbrev pub moment_map : (List Event → List Event) → Moment → Moment
 moment_map g moment = record moment { control = tape_map g moment.control }
 
-abbrev ran_map : (List Event → List Event) → Ran → Ran
+abbrev pub ran_map : (List Event → List Event) → Ran → Ran
 ran_map g ran = record ran { control = tape_map g ran.control }
 
 map_kept : (g : List Event → List Event) (rest : List Event) (count : ℕ) (t : Turn) → on_turn (tape_map g) (on_turn (with_tape rest count) t) ≡ on_turn (with_tape (g rest) count) t
@@ -102,7 +102,7 @@ module _ (layout : Layout) (g : List Event → List Event) (P : List Event → �
   goes_ok past n earlier (Goes next) h = earlier next h
   goes_ok past n earlier (Leaves exit next) h = refl
 
-  run_ok : (past : History) (n : ℕ) (control : Control) → Good (run layout past n control).control → run layout past n (tape_map g control) ≡ ran_map g (run layout past n control)
+  pub run_ok : (past : History) (n : ℕ) (control : Control) → Good (run layout past n control).control → run layout past n (tape_map g control) ≡ ran_map g (run layout past n control)
   run_ok past zero control h = refl
   run_ok past (suc n) control h =
       ap (λ t. go_on t (run layout past n)) (turn_ok past control control.now (goes_back past n (run_back past n) (turn layout past control) h))

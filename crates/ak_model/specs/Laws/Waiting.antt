@@ -36,6 +36,11 @@ abbrev pub AllWait : Layout → History → List Cycle → Type 0
 AllWait layout past [] = Unit {0}
 AllWait layout past (cycle ∷ older) = Waits layout past cycle × AllWait layout past older
 
+-- cycles whose places strictly descend, from at most this place on
+abbrev pub Descend : ℕ → List Cycle → Type 0
+Descend n [] = Unit {0}
+Descend n (cycle ∷ older) = (1 ≤ cycle.at) × (cycle.at ≤ n) × Descend (cycle.at - 1) older
+
 -- an ETRACK that was answered Ok stands at this place of the history
 abbrev pub IsEtrackAt : History → ℕ → Type 0
 IsEtrackAt past place = first past place ≡ (Etrack, Ok) ∷ first past (place - 1)

@@ -2,10 +2,10 @@
 ghost use Rattle.ak_core.specs.Layout.{IsValid};
 ghost use Rattle.ak_core.specs.declared.event.Event.{Event};
 ghost use Rattle.ak_core.specs.declared.moves.Move.{Move};
-ghost use Rattle.ak_model.specs.Control.{Control, Moment, Program, after_move, moments, trace, turn};
+ghost use Rattle.ak_model.specs.Control.{Control, Moment, Program, after_move, answer, is_leaf, leaf_row, moments, trace, turn};
 ghost use Rattle.ak_model.specs.Kernels.{CountsRight};
-ghost use Rattle.ak_model.specs.Laws.{IsInRow, IsOrderly, IsPresent, KeepsLaws, MissesFit, OrderlyAfter, TurnIsOrderly, after_turn};
-ghost use Rattle.ak_model.specs.Paging.{History, inside, queue_at_build};
+ghost use Rattle.ak_model.specs.Laws.{IsInRow, IsOrderly, IsPresent, KeepsLaws, MissesFit, OrderlyAfter, SameView, TurnIsOrderly, after_turn};
+ghost use Rattle.ak_model.specs.Paging.{History, View, inside, queue_at_build, view_of};
 ghost use Rattle.ak_model.specs.Tapes.{ProgramTurn, program_turns, turns_of_move};
 ghost use Rattle.std.specs.Prelude.{All, Bool, List, Some, nat_lt, true, ℕ, ◌++◌, ◌+◌, ◌≡◌};
 ghost use Rattle.ak_core.specs.Layout;
@@ -49,4 +49,11 @@ pub fn one_inside()
 /// are in, and which one is asked for.
 pub fn kernel_counts()
     ensures { (layout : Layout.Layout) (tape : List Event) (moves : List Move) → CountsRight layout (trace layout tape moves) }
+{}
+
+/// A leaf is answered by its row over the view of the history, and views that agree in what is read have one row.
+pub fn leaf_rows()
+    ensures defined { (layout : Layout.Layout) (past : History) (control : Control) (m : Move) → is_leaf m ≡ true
+        → answer layout past control m ≡ leaf_row (view_of layout past) m }
+    ensures alike { (view other : View) → SameView view other → (m : Move) → leaf_row view m ≡ leaf_row other m }
 {}

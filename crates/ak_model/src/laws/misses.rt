@@ -1,14 +1,16 @@
 // Laws on what is reached, what may fault, and how few misses there are.
 ghost use Rattle.ak_core.specs.Mem.{Access};
-ghost use Rattle.ak_model.specs.Control.{turn};
+ghost use Rattle.ak_core.specs.declared.event.Event.{Event};
+ghost use Rattle.ak_core.specs.declared.moves.Move.{Move};
+ghost use Rattle.ak_model.specs.Control.{trace, turn};
 ghost use Rattle.ak_model.specs.Flat.{flat_run, is_forbidden};
-ghost use Rattle.ak_model.specs.Laws.{IsDistinct, MissesFit, QueueFits, misses_at};
-ghost use Rattle.ak_model.specs.Misses.{ComesTo, MayComplete, MayFault, accesses_at, accesses_of};
+ghost use Rattle.ak_model.specs.Laws.{AreEarlier, IsDistinct, MissesFit, QueueFits, misses_at};
+ghost use Rattle.ak_model.specs.Misses.{ComesTo, MayComplete, MayFault, accesses_at, accesses_of, completed_since, entered_at, granted_since};
 ghost use Rattle.ak_model.specs.Paging.{access_walkable, inside, queue_at_build};
 ghost use Rattle.ak_model.specs.Sound.{AccessesAreReached, BreakIsForced, BrokenBy, EachTurn, EventsAreFlat, ReachedBy, Sound, queue_by, turns_of};
-ghost use Rattle.ak_model.specs.Tapes.{FlatRuns, ProgramTurn, last_moment, runs_of};
+ghost use Rattle.ak_model.specs.Tapes.{FlatRuns, ProgramTurn, last_moment, program_turns, runs_of};
 ghost use Rattle.std.specs.List.{list_all};
-ghost use Rattle.std.specs.Prelude.{List, false, length, true, ℕ, ◌++◌, ◌+◌, ◌∷◌, ◌≡◌, ◌≤◌};
+ghost use Rattle.std.specs.Prelude.{List, [], false, length, true, ℕ, ◌++◌, ◌+◌, ◌<◌, ◌∷◌, ◌≡◌, ◌≤◌};
 ghost use Rattle.ak_core.specs.Journal;
 ghost use Rattle.ak_core.specs.Layout;
 
@@ -82,4 +84,20 @@ pub fn few_misses()
         → Sound image layout journal → IsDistinct (misses_at journal.events i) }
     ensures accesses { (image : List ℕ) (layout : Layout.Layout) (journal : Journal.Journal) (i : ℕ)
         → Sound image layout journal → length (misses_at journal.events i) ≤ length (accesses_of layout (runs_of layout image journal i)) }
+{}
+
+/// Right after an entering nothing was granted to its processor; an instruction that completes in the stay grants the accesses of
+/// its line, and any other turn nothing; and two turns of one stay were granted the same. Each turn of a trace is of a processor
+/// that was inside, after a history no longer than that of the trace.
+pub fn accesses_granted()
+    ensures none { (layout : Layout.Layout) (runs : FlatRuns) (turn : ProgramTurn) (older : List ProgramTurn) (n : ℕ) → AreEarlier n older
+        → n < entered_at turn → granted_since layout runs turn older ≡ [] }
+    ensures more { (layout : Layout.Layout) (runs : FlatRuns) (turn new : ProgramTurn) (older : List ProgramTurn) → completed_since turn new ≡ true
+        → granted_since layout runs turn (new ∷ older) ≡ accesses_at layout runs new ++ granted_since layout runs turn older }
+    ensures no_more { (layout : Layout.Layout) (runs : FlatRuns) (turn new : ProgramTurn) (older : List ProgramTurn) → completed_since turn new ≡ false
+        → granted_since layout runs turn (new ∷ older) ≡ granted_since layout runs turn older }
+    ensures same { (layout : Layout.Layout) (runs : FlatRuns) (turn other : ProgramTurn) (older : List ProgramTurn) → turn.lp ≡ other.lp
+        → entered_at turn ≡ entered_at other → granted_since layout runs turn older ≡ granted_since layout runs other older }
+    ensures earlier { (layout : Layout.Layout) (tape : List Event) (moves : List Move)
+        → AreEarlier (length (trace layout tape moves).past) (program_turns layout tape moves) }
 {}

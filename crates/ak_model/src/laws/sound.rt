@@ -3,7 +3,7 @@ ghost use Rattle.ak_model.specs.Control.{turn};
 ghost use Rattle.ak_model.specs.Flat.{flat_run};
 ghost use Rattle.ak_model.specs.Sound.{BreaksAreForced, BreaksAreForcedUnkept, BrokenUnkeptBy, EachTurn, EventsAreFlat, MissedBy, MissesAreForced, Sound, turns_of};
 ghost use Rattle.ak_model.specs.Tapes.{last_moment};
-ghost use Rattle.std.specs.Prelude.{List, ℕ, ◌++◌, ◌+◌};
+ghost use Rattle.std.specs.Prelude.{List, ℕ, ◌++◌, ◌+◌, ◌≡◌};
 ghost use Rattle.ak_core.specs.Journal;
 ghost use Rattle.ak_core.specs.Layout;
 
@@ -24,4 +24,11 @@ pub fn misses_and_breaks_stay_forced()
         → EventsAreFlat image layout journal → BreaksAreForcedUnkept image layout journal
         → EachTurn (λ turn. λ older. BrokenUnkeptBy layout (flat_run layout image ((last_moment layout journal).control.returned ++ more)) journal.stop turn older turn.event)
         (turns_of layout journal) }
+{}
+
+/// Two sound journals of equal layouts with equal moves and events have equal answers, whatever their images.
+pub fn sound_answers_agree()
+    ensures { (image image' : List ℕ) (layout layout' : Layout.Layout) (journal journal' : Journal.Journal)
+        → Sound image layout journal → Sound image' layout' journal' → layout ≡ layout'
+        → journal.moves ≡ journal'.moves → journal.events ≡ journal'.events → journal.answers ≡ journal'.answers }
 {}

@@ -30,7 +30,7 @@ use Rattle.ak_relation.specs.Program.Reaching.{IsForcedBy, BreaksStand}
 use Rattle.ak_relation.specs.Relation.Stands.{copies_at, Stands}
 use Rattle.ak_relation.specs.Premises.Entering.{EntersAt}
 use Rattle.ak_relation.specs.Relation.Does.{at_moment}
-use Rattle.ak_relation.proofs.Leaves.OpenFrames.{known-present}
+use Rattle.ak_model.proofs.Paging.OpenFrames.{known-present}
 use Rattle.ak_relation.proofs.Entering.EnterFacts.{IsOpenFrame, Found, enter_found}
 
 page_is : (a b : ℕ) → PageFrame a ≡ PageFrame b → a ≡ b

@@ -32,19 +32,21 @@ use Rattle.ak_relation.specs.Bytes.SavedFrames.{number_at}
 use Rattle.ak_relation.specs.State.TrackSteps.{EntersBy}
 use Rattle.ak_relation.specs.State.MachineState.{State}
 use Rattle.ak_relation.specs.Bytes.Contexts.{GivesNow}
-use Rattle.ak_relation.specs.Program.FlatPlaces.{owing_running, IsAtBy}
+use Rattle.ak_model.specs.Laws.OwedAnswers.{owing_running}
+use Rattle.ak_relation.specs.Program.FlatPlaces.{IsAtBy}
 use Rattle.ak_relation.specs.Program.Turns.{is_last, LawsStand}
 use Rattle.ak_relation.specs.State.Tables.{EntriesStand, SealedPageAgrees, MappingStands, TablesStand}
-use Rattle.ak_relation.specs.Program.Reaching.{AreReached, is_filled, HoldsSince, IsLate, granted_to, StaysBy, IsStaying}
+use Rattle.ak_relation.specs.Program.Reaching.{AreReached, is_filled, granted_to, StaysBy, IsStaying}
+use Rattle.ak_model.specs.Laws.OpenFrames.{HoldsSince, IsLate}
 use Rattle.ak_relation.specs.Relation.Stands.{runs_at, Stands}
 use Rattle.ak_relation.specs.Premises.Entering.{EntersAt}
 use Rattle.ak_relation.specs.Relation.Does.{at_moment}
-use Rattle.ak_relation.proofs.Program.Calls.{other_now}
-use Rattle.ak_relation.proofs.Program.CallTurns.{entered-answered}
+use Rattle.ak_model.proofs.Tapes.Calls.{other_now}
+use Rattle.ak_model.proofs.Tapes.CallTurns.{entered-answered}
 use Rattle.ak_relation.proofs.Program.TurnWords.{inputs_with}
-use Rattle.ak_relation.proofs.Program.Granted.{granted-none}
+use Rattle.ak_model.proofs.Misses.Granted.{granted-none}
 use Rattle.ak_relation.proofs.Leaves.LeafStands.{earlier_more}
-use Rattle.ak_relation.proofs.Leaves.OpenFrames.{known-present}
+use Rattle.ak_model.proofs.Paging.OpenFrames.{known-present}
 use Rattle.ak_relation.proofs.Entering.EnteredPages.{last_entered, found, empty_now, nobody, tcs_open, area_open, breaks, all_pages_stand}
 
 module _ (layout : Layout) (image : List ℕ) (past : History) (control : Control) (turns : List ProgramTurn) (old new : State) (lp : Lp) (v : ℕ)

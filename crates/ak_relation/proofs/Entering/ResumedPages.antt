@@ -10,13 +10,12 @@ use Rattle.ak_model.specs.Paging.Holdings.{Place, InFrame, InHandle, Gone, Mappi
 use Rattle.ak_model.specs.Paging.Frames.{held}
 use Rattle.ak_model.specs.Paging.Handles.{place}
 use Rattle.ak_model.specs.Paging.PageTable.{pte}
-use Rattle.ak_model.specs.Paging.Inside.{since, inside}
+use Rattle.ak_model.specs.Paging.Inside.{since, inside, someone_inside}
 use Rattle.ak_model.specs.Control.ControlState.{Saved, Control}
 use Rattle.ak_model.specs.Flat.FlatRuns.{page_bytes}
 use Rattle.ak_model.specs.Tapes.LastMoment.{FlatRuns}
 use Rattle.ak_model.specs.Tapes.ProgramTurns.{ProgramTurn}
 use Rattle.ak_model.specs.Sound.Forced.{queue_by}
-use Rattle.ak_model.specs.Paging.Inside.{someone_inside}
 use Rattle.ak_model.proofs.Control.OrderlyMoves.{none_now, three}
 use Rattle.ak_relation.specs.Bytes.Contexts.{Gives}
 use Rattle.ak_relation.specs.State.MachineState.{State, copy, OfCopy}
@@ -26,7 +25,7 @@ use Rattle.ak_relation.specs.Relation.Stands.{copies_at, Stands}
 use Rattle.ak_relation.specs.Premises.Resuming.{ResumesAt}
 use Rattle.ak_relation.specs.Relation.Does.{at_moment}
 use Rattle.ak_relation.proofs.Entering.LoadedRegisters.{area_back}
-use Rattle.ak_relation.proofs.Leaves.OpenFrames.{known-present}
+use Rattle.ak_model.proofs.Paging.OpenFrames.{known-present}
 use Rattle.ak_relation.proofs.Entering.EnterFacts.{IsOpenFrame}
 use Rattle.ak_relation.proofs.Entering.EnteredPages.{none_of, none_place}
 use Rattle.ak_relation.proofs.Entering.ResumeFacts.{FoundAgain}

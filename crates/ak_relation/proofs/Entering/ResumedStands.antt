@@ -31,21 +31,23 @@ use Rattle.ak_relation.specs.Bytes.SavedFrames.{number_at}
 use Rattle.ak_relation.specs.State.TrackSteps.{EntersBy}
 use Rattle.ak_relation.specs.State.MachineState.{State}
 use Rattle.ak_relation.specs.Bytes.Contexts.{Gives, GivesNow}
-use Rattle.ak_relation.specs.Program.FlatPlaces.{oldest, owing_by, IsAtBy}
-use Rattle.ak_relation.specs.Program.Calls.{calls_by, IsAnswered}
+use Rattle.ak_model.specs.Laws.OwedAnswers.{oldest, owing_by}
+use Rattle.ak_relation.specs.Program.FlatPlaces.{IsAtBy}
+use Rattle.ak_model.specs.Laws.Calls.{calls_by, IsAnswered}
 use Rattle.ak_relation.specs.Program.Turns.{is_last, LawsStand}
 use Rattle.ak_relation.specs.State.Tables.{EntriesStand, SealedPageAgrees, MappingStands, TablesStand}
-use Rattle.ak_relation.specs.Program.Reaching.{AreReached, is_filled, HoldsSince, IsLate, granted_to, StaysBy, IsStaying, BreaksStand}
+use Rattle.ak_relation.specs.Program.Reaching.{AreReached, is_filled, granted_to, StaysBy, IsStaying, BreaksStand}
+use Rattle.ak_model.specs.Laws.OpenFrames.{HoldsSince, IsLate}
 use Rattle.ak_relation.specs.Relation.Stands.{runs_at, copies_at, Stands}
 use Rattle.ak_relation.specs.Premises.Resuming.{ResumesAt}
 use Rattle.ak_relation.specs.Relation.Does.{at_moment}
 use Rattle.ak_relation.specs.Program.Inputs.{BringWords}
 use Rattle.ak_relation.proofs.Program.TurnWords.{inputs_with}
-use Rattle.ak_relation.proofs.Program.Calls.{oldest_saved}
-use Rattle.ak_relation.proofs.Program.CallTurns.{resumed-answered}
-use Rattle.ak_relation.proofs.Program.Granted.{granted-none}
+use Rattle.ak_model.proofs.Tapes.Calls.{oldest_saved}
+use Rattle.ak_model.proofs.Tapes.CallTurns.{resumed-answered}
+use Rattle.ak_model.proofs.Misses.Granted.{granted-none}
 use Rattle.ak_relation.proofs.Leaves.LeafStands.{earlier_more}
-use Rattle.ak_relation.proofs.Leaves.OpenFrames.{known-present}
+use Rattle.ak_model.proofs.Paging.OpenFrames.{known-present}
 use Rattle.ak_relation.proofs.Entering.ResumeFacts.{FoundAgain, last_resumed}
 use Rattle.ak_relation.proofs.Entering.ResumedPages.{empty_now, nobody, tcs_open, area_open, breaks, gives, all_pages_stand}
 

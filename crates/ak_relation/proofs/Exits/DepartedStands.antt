@@ -21,7 +21,8 @@ use Rattle.ak_relation.specs.Bytes.SavedFrames.{SavedCause, number_at}
 use Rattle.ak_relation.specs.State.TrackSteps.{LeavesBy}
 use Rattle.ak_relation.specs.State.MachineState.{State}
 use Rattle.ak_relation.specs.Bytes.Contexts.{Gives, GivesNow}
-use Rattle.ak_relation.specs.Program.FlatPlaces.{oldest, owing_running, owing_by, owing, IsAtBy}
+use Rattle.ak_model.specs.Laws.OwedAnswers.{oldest, owing_running, owing_by, owing}
+use Rattle.ak_relation.specs.Program.FlatPlaces.{IsAtBy}
 use Rattle.ak_relation.specs.Program.Turns.{events_by}
 use Rattle.ak_relation.specs.State.Tables.{EntriesStand, SealedPageAgrees, MappingStands, TablesStand}
 use Rattle.ak_relation.specs.Program.Reaching.{StaysBy, IsForcedBy, BreaksStand}

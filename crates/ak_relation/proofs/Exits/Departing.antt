@@ -29,13 +29,13 @@ use Rattle.ak_model.specs.Laws.Premises.{MissesFit}
 use Rattle.ak_relation.specs.Bytes.SavedFrames.{SavedCause, area_place, HasFrame}
 use Rattle.ak_relation.specs.State.MachineState.{State}
 use Rattle.ak_relation.specs.Bytes.Contexts.{IsNoted}
-use Rattle.ak_relation.specs.Program.Calls.{calls_in, calls_by, IsAnswered}
+use Rattle.ak_model.specs.Laws.Calls.{calls_in, calls_by, IsAnswered}
 use Rattle.ak_relation.specs.Program.Turns.{events_by, TurnStands, IsFresh, ends_by, is_last, is_last_call, IsGoing, LawsStand}
 use Rattle.ak_relation.specs.Program.Reaching.{IsForcedBy, StaysBy, IsStaying}
 use Rattle.ak_relation.specs.Relation.Stands.{runs_at, Stands}
 use Rattle.ak_relation.specs.Premises.Saving.{missed_in, Saves}
 use Rattle.ak_relation.specs.Relation.Does.{at_moment}
-use Rattle.ak_relation.proofs.Program.CallTurns.{saved}
+use Rattle.ak_model.proofs.Tapes.CallTurns.{saved}
 use Rattle.ak_relation.proofs.Leaves.LeafStands.{earlier_more}
 use Rattle.ak_relation.proofs.Exits.TapeGrows.{queue_past}
 

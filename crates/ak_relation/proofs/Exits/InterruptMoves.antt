@@ -18,7 +18,7 @@ use Rattle.ak_relation.specs.Program.Reaching.{StaysBy, IsStaying}
 use Rattle.ak_relation.specs.Relation.Stands.{runs_at}
 use Rattle.ak_relation.specs.Premises.Saving.{Saves}
 use Rattle.ak_relation.specs.Relation.Does.{with_rest, MoveFollows, at_moment, GoesTo, IsMove}
-use Rattle.ak_relation.proofs.Leaves.OpenFrames.{known-present}
+use Rattle.ak_model.proofs.Paging.OpenFrames.{known-present}
 use Rattle.ak_relation.proofs.Exits.Interrupted.{interrupted_stands}
 
 good : (b c : Bool) → b ≡ true → c ≡ true → (if not b then NoLp else (if not c then Outside else Ok)) ≡ Ok

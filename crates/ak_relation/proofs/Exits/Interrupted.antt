@@ -25,21 +25,22 @@ use Rattle.ak_relation.specs.Bytes.SavedFrames.{NoCause, number_at}
 use Rattle.ak_relation.specs.State.TrackSteps.{LeavesBy}
 use Rattle.ak_relation.specs.State.MachineState.{State}
 use Rattle.ak_relation.specs.Bytes.Contexts.{Gives, GivesNow}
-use Rattle.ak_relation.specs.Program.FlatPlaces.{oldest, owing_by, IsAtBy}
-use Rattle.ak_relation.specs.Program.Calls.{calls_by, IsAnswered}
+use Rattle.ak_model.specs.Laws.OwedAnswers.{oldest, owing_by}
+use Rattle.ak_relation.specs.Program.FlatPlaces.{IsAtBy}
+use Rattle.ak_model.specs.Laws.Calls.{calls_by, IsAnswered}
 use Rattle.ak_relation.specs.Program.Turns.{is_last, LawsStand}
 use Rattle.ak_relation.specs.State.Tables.{EntriesStand, MappingStands, TablesStand, SealedPageAgrees}
 use Rattle.ak_relation.specs.Program.Reaching.{StaysBy, IsStaying}
 use Rattle.ak_relation.specs.Relation.Stands.{runs_at, Stands}
 use Rattle.ak_relation.specs.Premises.Saving.{Saves}
 use Rattle.ak_relation.specs.Relation.Does.{at_moment}
-use Rattle.ak_relation.proofs.Program.Calls.{oldest_saved}
+use Rattle.ak_model.proofs.Tapes.Calls.{oldest_saved}
 use Rattle.ak_relation.specs.Program.Inputs.{BringsWordNow}
-use Rattle.ak_relation.proofs.Program.CallTurns.{interrupted-answered}
+use Rattle.ak_model.proofs.Tapes.CallTurns.{interrupted-answered}
 use Rattle.ak_relation.proofs.Program.TurnWords.{inputs_with}
 use Rattle.ak_relation.proofs.Program.OwnWords.{saved_fits}
 use Rattle.ak_relation.proofs.Leaves.LeafStands.{earlier_more}
-use Rattle.ak_relation.proofs.Leaves.OpenFrames.{known-present}
+use Rattle.ak_model.proofs.Paging.OpenFrames.{known-present}
 use Rattle.ak_relation.proofs.Exits.SavedPages.{pages_after, older_breaks}
 use Rattle.ak_model.specs.Paging.PageTable.{pte}
 

@@ -30,8 +30,8 @@ use Rattle.ak_relation.proofs.Program.Completing.{access_is, access_self, filled
 use Rattle.ak_relation.proofs.Entering.EnterAnswers.{walk_same}
 use Rattle.ak_relation.proofs.Exits.KeptBySet.{kept_same}
 use Rattle.ak_relation.proofs.Exits.Departing.{turn_with}
-use Rattle.ak_relation.proofs.Program.Granted.{granted-same}
-use Rattle.ak_relation.proofs.Program.Staying.{since_past}
+use Rattle.ak_model.proofs.Misses.Granted.{granted-same}
+use Rattle.ak_model.proofs.Paging.SincePast.{since_past}
 
 -- ---- Plain facts
 

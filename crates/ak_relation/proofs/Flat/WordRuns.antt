@@ -18,7 +18,8 @@ use Rattle.ak_model.specs.Flat.Encodings.{decode}
 use Rattle.ak_model.specs.Flat.FlatRuns.{Flat, End, Line, line_of, page_at, is_program, bytes_at, overwrite, if_operand, carry_out, perform, straddling, in_first_page, line, is_forbidden, rest_of_page, page_bytes, ending, FlatRun, after_call, after_ending, one_more, flat_run}
 use Rattle.ak_model.proofs.Flat.Decoding.{decode-size}
 use Rattle.ak_relation.specs.Bytes.SavedRegisters.{AreWords}
-use Rattle.ak_relation.specs.Program.FlatPlaces.{Reaches, IsAfterCall, Owing, Settled, Owed, Unknown, IsAtBy}
+use Rattle.ak_relation.specs.Program.FlatPlaces.{Reaches, IsAfterCall, IsAtBy}
+use Rattle.ak_model.specs.Laws.OwedAnswers.{Owing, Settled, Owed, Unknown}
 use Rattle.ak_relation.specs.Program.FlatFits.{AreBytes, FlatFits}
 use Rattle.ak_relation.proofs.Flat.Immediates.{decode-fits}
 use Rattle.ak_relation.proofs.Flat.WordPlans.{PlanWords, plan_words, set_words}

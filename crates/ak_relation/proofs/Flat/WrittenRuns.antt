@@ -10,7 +10,8 @@ use Rattle.ak_core.specs.declared.instruction.Decoded.TheVariants.{Whole, NeedMo
 use Rattle.ak_model.specs.Paging.Pages.{pages}
 use Rattle.ak_model.specs.Flat.Encodings.{decode}
 use Rattle.ak_model.specs.Flat.FlatRuns.{Flat, End, Line, line_of, page_at, is_program, straddling, in_first_page, line, is_forbidden, rest_of_page, page_bytes, ending, FlatRun, after_call, after_ending, one_more, flat_run}
-use Rattle.ak_relation.specs.Program.FlatPlaces.{Reaches, IsAfterCall, Owing, Settled, Owed, Unknown, IsAtBy}
+use Rattle.ak_relation.specs.Program.FlatPlaces.{Reaches, IsAfterCall, IsAtBy}
+use Rattle.ak_model.specs.Laws.OwedAnswers.{Owing, Settled, Owed, Unknown}
 use Rattle.ak_relation.specs.Program.FlatFits.{Unwritten, EndKeeps}
 use Rattle.ak_relation.proofs.Flat.WrittenPages.{LineKeeps, plan_short, carry_keeps}
 

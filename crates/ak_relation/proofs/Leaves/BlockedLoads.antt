@@ -12,15 +12,13 @@ use Rattle.ak_model.specs.Paging.Frames.{held}
 use Rattle.ak_model.specs.Paging.Handles.{live, page_of, place}
 use Rattle.ak_model.specs.Paging.PageTable.{pte}
 use Rattle.ak_model.specs.Paging.Inside.{since}
-use Rattle.ak_model.specs.Control.ControlState.{control_at_build}
-use Rattle.ak_relation.specs.State.View.{leaf_row}
+use Rattle.ak_model.specs.Control.LeafRows.{leaf_row}
 use Rattle.ak_relation.specs.State.MachineState.{State}
 use Rattle.ak_relation.specs.State.Tables.{SealedPageAgrees, MappingStands, PresenceStands, TablesStand}
 use Rattle.ak_relation.specs.State.MachineView.{view_in}
 use Rattle.ak_relation.specs.Premises.Leaves.{LeafChanges}
 use Rattle.ak_relation.specs.Premises.Loading.{LoadsFrom}
 use Rattle.ak_relation.specs.Relation.Does.{IsMove}
-use Rattle.ak_relation.proofs.Leaves.LeafRows.{answer-leaf}
 use Rattle.ak_relation.proofs.Leaves.LeafMoves.{leaf_moves}
 use Rattle.ak_relation.proofs.Leaves.LoadMoves.{fair_row}
 use Rattle.ak_relation.proofs.Leaves.Loaded.{IsFair, other_va, loaded_entry, loaded_slot, loaded_copy, loaded_one, loaded_stamp}
@@ -62,4 +60,4 @@ module _ (layout : Layout) (old new : State) (f va : Frame) (k : Handle) (p : Pa
       leaf_moves layout old new (Eldb f k p va i) Ok refl row
       (λ past tables there.
       eldb_changes past tables w
-      (fair_row layout past f.0 k.0 p.0 va.0 i (answer-leaf layout past (control_at_build layout []) (Eldb f k p va i) refl ∙ there) there))
+      (fair_row layout past f.0 k.0 p.0 va.0 i there))

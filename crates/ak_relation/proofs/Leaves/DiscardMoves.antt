@@ -16,7 +16,7 @@ use Rattle.ak_model.specs.Paging.Holdings.{Place, InFrame, InHandle, Gone}
 use Rattle.ak_model.specs.Paging.Handles.{given, page_of, discarded, live, gone_if, place}
 use Rattle.ak_model.specs.Paging.PageTable.{pte}
 use Rattle.ak_model.proofs.Paging.LiveCopies.{discards}
-use Rattle.ak_relation.specs.State.View.{leaf_row}
+use Rattle.ak_model.specs.Control.LeafRows.{leaf_row}
 use Rattle.ak_relation.specs.State.MachineState.{SealedPage, State, copy}
 use Rattle.ak_relation.specs.State.Tables.{SealedPageAgrees, TablesStand}
 use Rattle.ak_relation.specs.State.MachineView.{view_in}

@@ -12,15 +12,16 @@ use Rattle.ak_model.specs.Paging.Build.{known_pages}
 use Rattle.ak_model.specs.Paging.Histories.{History, Pair}
 use Rattle.ak_model.specs.Paging.Holdings.{Held, FreeFrame, SecsFrame, VaFrame, PageFrame}
 use Rattle.ak_model.specs.Paging.Frames.{held, blocked_at}
-use Rattle.ak_model.specs.Control.Answers.{if_page}
+use Rattle.ak_model.specs.Control.LeafRows.{if_page}
 use Rattle.ak_epcm.specs.Entries.{entry_at}
-use Rattle.ak_relation.specs.State.View.{view_of, leaf_row}
+use Rattle.ak_model.specs.Paging.Views.{view_of}
+use Rattle.ak_model.specs.Control.LeafRows.{leaf_row}
 use Rattle.ak_relation.specs.State.TrackSteps.{Cycled}
 use Rattle.ak_relation.specs.State.MachineState.{State}
 use Rattle.ak_relation.specs.State.MachineView.{view_in}
 use Rattle.ak_relation.specs.Premises.Leaves.{LeafKeeps, LeafChanges}
 use Rattle.ak_relation.specs.Relation.Does.{IsMove}
-use Rattle.ak_relation.proofs.Leaves.OpenFrames.{frame_ok}
+use Rattle.ak_model.proofs.Control.LeafRows.{frame_ok}
 use Rattle.ak_relation.proofs.Leaves.LeafMoves.{quiet_moves, leaf_moves}
 use Rattle.ak_relation.proofs.Leaves.SomeLeaves.{etrack_keeps, set_pte_keeps, eblock_keeps}
 

@@ -14,15 +14,16 @@ use Rattle.ak_model.specs.Control.Entering.{control_after}
 use Rattle.ak_model.specs.Tapes.ProgramTurns.{turns_of_move}
 use Rattle.ak_model.specs.Kernels.Repeats.{is_done}
 use Rattle.ak_model.proofs.Paging.RefusedMoves.{change-refused}
-use Rattle.ak_relation.specs.State.View.{view_of, leaf_row, is_leaf}
+use Rattle.ak_model.specs.Paging.Views.{view_of}
+use Rattle.ak_model.specs.Control.LeafRows.{leaf_row, is_leaf}
 use Rattle.ak_relation.specs.State.MachineState.{State}
 use Rattle.ak_relation.specs.State.Tables.{TablesStand}
 use Rattle.ak_relation.specs.State.MachineView.{view_in}
 use Rattle.ak_relation.specs.Premises.Leaves.{LeafKeeps, LeafChanges}
 use Rattle.ak_relation.specs.Relation.Does.{IsMove}
-use Rattle.ak_relation.proofs.Leaves.LeafRows.{leaf_row-same}
+use Rattle.ak_model.proofs.Control.LeafRows.{leaf_row-same}
 use Rattle.ak_relation.proofs.Leaves.ViewStands.{view-same, answer-view}
-use Rattle.ak_relation.proofs.Leaves.OpenFrames.{IsKnown, known-present, keeps_open}
+use Rattle.ak_model.proofs.Paging.OpenFrames.{IsKnown, known-present, keeps_open}
 use Rattle.ak_relation.proofs.Leaves.LeafStands.{leaf_stands}
 use Rattle.ak_relation.proofs.Leaves.Refused.{refused_keeps}
 

@@ -13,7 +13,8 @@ use Rattle.ak_model.specs.Tapes.ProgramTurns.{ProgramTurn}
 use Rattle.ak_relation.specs.State.MachineState.{State}
 use Rattle.ak_relation.specs.Program.Reaching.{StaysBy, ReachedStands}
 use Rattle.ak_relation.specs.Relation.Stands.{runs_at, copies_at, RegistersStand, BytesStand, Stands}
-use Rattle.ak_relation.specs.Program.Turns.{AreEarlier, LawsStand}
+use Rattle.ak_model.specs.Laws.EarlierTurns.{AreEarlier}
+use Rattle.ak_relation.specs.Program.Turns.{LawsStand}
 use Rattle.ak_relation.specs.Premises.Leaves.{LeafKeeps}
 use Rattle.ak_relation.proofs.Leaves.Fewer.{copies-fewer, breaks-fewer}
 use Rattle.ak_relation.proofs.Program.Staying.{stays-more}

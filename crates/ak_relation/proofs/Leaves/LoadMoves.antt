@@ -13,27 +13,25 @@ use Rattle.ak_model.specs.Paging.Frames.{held}
 use Rattle.ak_model.specs.Paging.Handles.{live, page_of, place}
 use Rattle.ak_model.specs.Paging.PageTable.{pte}
 use Rattle.ak_model.specs.Paging.Inside.{since}
-use Rattle.ak_model.specs.Control.ControlState.{control_at_build}
-use Rattle.ak_model.specs.Control.Answers.{load_answer}
 use Rattle.ak_model.proofs.Paging.OneCopy.{load_fair}
 use Rattle.ak_model.proofs.Paging.SomeoneInside.{other}
-use Rattle.ak_relation.specs.State.View.{view_of, has_slot, load_row, leaf_row}
+use Rattle.ak_model.specs.Paging.Views.{view_of}
+use Rattle.ak_model.specs.Control.LeafRows.{has_slot, load_row, leaf_row}
 use Rattle.ak_relation.specs.State.MachineState.{State}
 use Rattle.ak_relation.specs.State.Tables.{SealedPageAgrees, MappingStands, PresenceStands, TablesStand}
 use Rattle.ak_relation.specs.State.MachineView.{view_in}
 use Rattle.ak_relation.specs.Premises.Leaves.{LeafChanges}
 use Rattle.ak_relation.specs.Premises.Loading.{LoadsFrom}
 use Rattle.ak_relation.specs.Relation.Does.{IsMove}
-use Rattle.ak_relation.proofs.Leaves.LeafRows.{answer-leaf}
-use Rattle.ak_relation.proofs.Leaves.OpenFrames.{frame_ok}
+use Rattle.ak_model.proofs.Control.LeafRows.{frame_ok}
 use Rattle.ak_relation.proofs.Leaves.LeafMoves.{leaf_moves}
 use Rattle.ak_relation.proofs.Leaves.WriteOutMoves.{va_if}
 use Rattle.ak_relation.proofs.Leaves.Loaded.{IsFair, other_va, loaded_entry, loaded_slot, loaded_copy, loaded_one, loaded_stamp}
 
 -- the row of a load tells that it is fair
-pub fair_row : (layout : Layout) (past : History) (f k p va i : ℕ) → load_answer layout past f k p va i ≡ Ok → load_row (view_of layout past) f k p va i ≡ Ok → IsFair layout past f k p va i
-fair_row layout past f k p va i answer row =
-    let fair = load_fair layout past f k p va i false answer in
+pub fair_row : (layout : Layout) (past : History) (f k p va i : ℕ) → load_row (view_of layout past) f k p va i ≡ Ok → IsFair layout past f k p va i
+fair_row layout past f k p va i row =
+    let fair = load_fair layout past f k p va i false row in
     let free = other (not (is_free (held layout past f))) InUse _ Ok (λ e. cc) (frame_ok (view_of layout past) f _ Ok (λ e. cc) (λ e. cc) row) in
     let slotted = other (not (has_slot (view_of layout past) va i)) BadVa _ Ok (λ e. cc) free.1 in
     record { free = fair.0; in_va = va_if (held layout past va) (nat_lt i 512) slotted.0; version = fair.1; kept = fair.2; page = fair.3 }
@@ -74,4 +72,4 @@ module _ (layout : Layout) (old new : State) (f va : Frame) (k : Handle) (p : Pa
       leaf_moves layout old new (Eldu f k p va i) Ok refl row
       (λ past tables there.
       eldu_changes past tables w
-      (fair_row layout past f.0 k.0 p.0 va.0 i (answer-leaf layout past (control_at_build layout []) (Eldu f k p va i) refl ∙ there) there))
+      (fair_row layout past f.0 k.0 p.0 va.0 i there))

@@ -20,14 +20,15 @@ use Rattle.ak_epcm.specs.Entries.{entry_at}
 use Rattle.ak_walk.specs.Agrees.{EntryAgrees, IsOfType}
 use Rattle.ak_relation.specs.Bytes.SavedFrames.{number_at}
 use Rattle.ak_relation.specs.State.TrackSteps.{stamp_of}
-use Rattle.ak_relation.specs.State.View.{view_of, leaf_row}
+use Rattle.ak_model.specs.Paging.Views.{view_of}
+use Rattle.ak_model.specs.Control.LeafRows.{leaf_row}
 use Rattle.ak_relation.specs.State.MachineState.{State, copy}
 use Rattle.ak_relation.specs.State.Tables.{version, MappingStands, PresenceStands, SealedPageAgrees, TablesStand}
 use Rattle.ak_relation.specs.State.MachineView.{view_in}
 use Rattle.ak_relation.specs.Premises.Leaves.{LeafChanges}
 use Rattle.ak_relation.specs.Premises.Making.{MakesSlots}
 use Rattle.ak_relation.specs.Relation.Does.{IsMove}
-use Rattle.ak_relation.proofs.Leaves.OpenFrames.{frame_ok}
+use Rattle.ak_model.proofs.Control.LeafRows.{frame_ok}
 use Rattle.ak_relation.proofs.Leaves.LeafMoves.{leaf_moves}
 
 free_is : (h : Held) → (if is_free h then Ok else InUse) ≡ Ok → h ≡ FreeFrame

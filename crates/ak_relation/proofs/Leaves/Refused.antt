@@ -13,7 +13,8 @@ use Rattle.ak_model.specs.Laws.OneLiveCopy.{Agrees}
 use Rattle.ak_relation.specs.State.TrackSteps.{steps_of, steps_after, stamp_of}
 use Rattle.ak_relation.specs.State.MachineState.{State, copy}
 use Rattle.ak_relation.specs.State.Tables.{EntriesStand, SlotsStand, SealedPagesStand, MappingStands, PresenceStands, TrackingStands, TablesStand}
-use Rattle.ak_relation.specs.Premises.Leaves.{takes, LeafKeeps}
+use Rattle.ak_model.specs.Laws.OpenFrames.{takes}
+use Rattle.ak_relation.specs.Premises.Leaves.{LeafKeeps}
 
 module _ (layout : Layout) (past : History) (m : Move) (a : Answer) (s : State) (e : change m a ≡ Unchanged) where
   tables : TablesStand layout past s → TablesStand layout ((m, a) ∷ past) s

@@ -13,7 +13,7 @@ use Rattle.ak_model.specs.Paging.Handles.{given, page_of, discarded, slot, place
 use Rattle.ak_model.specs.Laws.OneLiveCopy.{Agrees}
 use Rattle.ak_model.proofs.Paging.LiveCopies.{frees, removes}
 use Rattle.ak_epcm.specs.Entries.{entry_at}
-use Rattle.ak_relation.specs.State.View.{leaf_row}
+use Rattle.ak_model.specs.Control.LeafRows.{leaf_row}
 use Rattle.ak_relation.specs.State.TrackSteps.{stamp_of}
 use Rattle.ak_relation.specs.State.MachineState.{State, copy}
 use Rattle.ak_relation.specs.State.Tables.{TablesStand}

@@ -22,12 +22,14 @@ use Rattle.ak_model.specs.Control.ControlState.{Control}
 use Rattle.ak_model.specs.Control.Answers.{answer}
 use Rattle.ak_epcm.specs.Entries.{entry_at}
 use Rattle.ak_walk.specs.Agrees.{EntryAgrees, HoldsPage}
-use Rattle.ak_relation.specs.State.View.{view_of, leaf_row, is_leaf, SameView}
+use Rattle.ak_model.specs.Paging.Views.{view_of}
+use Rattle.ak_model.specs.Control.LeafRows.{leaf_row, is_leaf}
+use Rattle.ak_model.specs.Laws.SameViews.{SameView}
 use Rattle.ak_relation.specs.State.TrackSteps.{Cycled, steps_of, stamp_of, tracked_by, incomplete_by}
 use Rattle.ak_relation.specs.State.MachineState.{SealedPage, State}
 use Rattle.ak_relation.specs.State.Tables.{version, SealedPageAgrees, TablesStand}
 use Rattle.ak_relation.specs.State.MachineView.{held_by, held_in, handle_in, page_on, view_in}
-use Rattle.ak_relation.proofs.Leaves.LeafRows.{answer-leaf, leaf_row-same}
+use Rattle.ak_model.proofs.Control.LeafRows.{answer-leaf, leaf_row-same}
 use Rattle.ak_relation.proofs.Leaves.SomeLeaves.{stamp-blocked}
 use Rattle.ak_relation.proofs.Tracking.TrackedBy.{tracked-steps, incomplete-steps}
 

@@ -14,17 +14,18 @@ use Rattle.ak_model.specs.Paging.Handles.{given, place, discarded}
 use Rattle.ak_model.specs.Paging.Inside.{since}
 use Rattle.ak_model.specs.Paging.PageTable.{pte}
 use Rattle.ak_model.specs.Paging.Tracking.{tracked}
-use Rattle.ak_model.specs.Control.Answers.{if_page}
+use Rattle.ak_model.specs.Control.LeafRows.{if_page}
 use Rattle.ak_model.proofs.Paging.SomeoneInside.{other}
 use Rattle.ak_epcm.specs.Entries.{entry_at}
-use Rattle.ak_relation.specs.State.View.{view_of, has_slot, leaf_row}
+use Rattle.ak_model.specs.Paging.Views.{view_of}
+use Rattle.ak_model.specs.Control.LeafRows.{has_slot, leaf_row}
 use Rattle.ak_relation.specs.State.MachineState.{State, copy}
 use Rattle.ak_relation.specs.State.Tables.{MappingStands, PresenceStands, TablesStand, SealedPageAgrees}
 use Rattle.ak_relation.specs.State.MachineView.{view_in}
 use Rattle.ak_relation.specs.Premises.Leaves.{LeafChanges}
 use Rattle.ak_relation.specs.Premises.WriteOut.{WritesOutTo}
 use Rattle.ak_relation.specs.Relation.Does.{IsMove}
-use Rattle.ak_relation.proofs.Leaves.OpenFrames.{frame_ok}
+use Rattle.ak_model.proofs.Control.LeafRows.{frame_ok}
 use Rattle.ak_relation.proofs.Leaves.LeafMoves.{leaf_moves}
 use Rattle.ak_relation.proofs.Leaves.WriteOut.{freed_entry, still_va, slot_stands, sealed_page_stands, sealed_pages_are, page_is, copy_stands, copies_after, stamp_stands}
 

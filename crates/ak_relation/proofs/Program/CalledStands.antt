@@ -31,7 +31,7 @@ use Rattle.ak_relation.proofs.Flat.FlatLaws.{EndFits}
 use Rattle.ak_relation.proofs.Program.CalledTurn.{called, left, line_is, stay, fills, tape, turn_stands, owed, laws}
 use Rattle.ak_relation.proofs.Program.Completing.{same_id}
 use Rattle.ak_relation.proofs.Program.TurnWords.{inputs_with}
-use Rattle.ak_relation.proofs.Program.Granted.{granted-completes}
+use Rattle.ak_model.proofs.Misses.Granted.{granted-completes}
 use Rattle.ak_relation.specs.Bytes.Contexts.{Gives, GivesNow}
 
 module _ (layout : Layout) (image : List ℕ) (past : History) (control : Control) (turns : List ProgramTurn) (old new : State) (lp place : ℕ) (flat after : Flat) (b a : ℕ)

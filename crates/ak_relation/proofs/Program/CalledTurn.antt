@@ -16,8 +16,9 @@ use Rattle.ak_model.specs.Misses.KeptTranslations.{is_among}
 use Rattle.ak_core.specs.declared.event.Event.{Event}
 use Rattle.ak_core.specs.declared.event.Event.TheVariants.{Call, Miss, Trap, Break}
 use Rattle.ak_relation.specs.State.MachineState.{State}
-use Rattle.ak_relation.specs.Program.FlatPlaces.{Settled, Owed, oldest, owing_running, owing_by, Reaches, owing}
-use Rattle.ak_relation.specs.Program.Calls.{calls_by, IsReturned, IsAnswered}
+use Rattle.ak_model.specs.Laws.OwedAnswers.{Settled, Owed, oldest, owing_running, owing_by, owing}
+use Rattle.ak_relation.specs.Program.FlatPlaces.{Reaches}
+use Rattle.ak_model.specs.Laws.Calls.{calls_by, IsReturned, IsAnswered}
 use Rattle.ak_relation.specs.Program.Turns.{events_by, TapeStands, TurnStands, IsGoing, LawsStand, IsFresh, is_last, is_last_call}
 use Rattle.ak_relation.specs.Program.Reaching.{IsStaying, AreReached, StaysBy}
 use Rattle.ak_relation.specs.Relation.Stands.{runs_at, Stands}

@@ -11,7 +11,7 @@ use Rattle.ak_model.specs.Tapes.ProgramTurns.{ProgramTurn}
 use Rattle.ak_relation.specs.Bytes.SavedFrames.{SavedCause}
 use Rattle.ak_relation.specs.Bytes.SavedRegisters.{AreRegs}
 use Rattle.ak_relation.specs.Bytes.FramesFit.{FrameFits}
-use Rattle.ak_relation.specs.Program.FlatPlaces.{owing}
+use Rattle.ak_model.specs.Laws.OwedAnswers.{owing}
 use Rattle.ak_relation.specs.Program.FlatFits.{FlatFits}
 use Rattle.ak_relation.specs.State.MachineState.{State}
 use Rattle.ak_relation.specs.Premises.Saving.{Saves}

@@ -13,7 +13,8 @@ use Rattle.ak_model.specs.Paging.Inside.{since}
 use Rattle.ak_model.specs.Paging.Walk.{flags_allow, is_in_frame}
 use Rattle.ak_relation.specs.State.MachineState.{Fill, State}
 use Rattle.ak_relation.specs.State.Tables.{TablesStand}
-use Rattle.ak_relation.specs.Program.Reaching.{IsLate, IsReachedFill, AreReached}
+use Rattle.ak_model.specs.Laws.OpenFrames.{IsLate}
+use Rattle.ak_relation.specs.Program.Reaching.{IsReachedFill, AreReached}
 use Rattle.ak_relation.specs.Premises.EnterRows.{walk_in}
 use Rattle.ak_relation.specs.Premises.Faulting.{AreWalked}
 use Rattle.ak_relation.specs.Premises.CallingOut.{walked_fill}

@@ -17,7 +17,8 @@ use Rattle.ak_model.specs.Laws.Orderly.{ContextFits, NowFits, ReasonFits, StackF
 use Rattle.ak_model.proofs.Control.OrderlyTurns.{in_row}
 use Rattle.ak_relation.specs.State.MachineState.{State}
 use Rattle.ak_relation.specs.Bytes.Contexts.{Gives, GivesNow}
-use Rattle.ak_relation.specs.Program.FlatPlaces.{Owing, Settled, Owed, Unknown, owing, IsAtBy, IsAfterCall}
+use Rattle.ak_model.specs.Laws.OwedAnswers.{Owing, Settled, Owed, Unknown, owing}
+use Rattle.ak_relation.specs.Program.FlatPlaces.{IsAtBy, IsAfterCall}
 use Rattle.ak_relation.specs.Bytes.Pages.{CopiesStand}
 use Rattle.ak_relation.specs.Premises.Leaves.{AreFewer}
 use Rattle.ak_relation.specs.Relation.Stands.{copies_at, Stands}

@@ -23,7 +23,8 @@ use Rattle.ak_model.proofs.Control.OrderlySteps.{ClustersFit}
 use Rattle.ak_relation.specs.Bytes.FramesFit.{HasRoom}
 use Rattle.ak_relation.specs.State.MachineState.{State, OfCopy}
 use Rattle.ak_relation.specs.Bytes.Contexts.{Gives}
-use Rattle.ak_relation.specs.Program.FlatPlaces.{owing_running, IsAtBy}
+use Rattle.ak_model.specs.Laws.OwedAnswers.{owing_running}
+use Rattle.ak_relation.specs.Program.FlatPlaces.{IsAtBy}
 use Rattle.ak_relation.specs.Bytes.Pages.{IsState, CopiesStand}
 use Rattle.ak_relation.specs.Program.Turns.{is_last, is_last_call}
 use Rattle.ak_relation.specs.Relation.Stands.{copies_at, Stands}
@@ -31,7 +32,7 @@ use Rattle.ak_relation.specs.Premises.Rows.{Row, leaving}
 use Rattle.ak_relation.specs.Premises.StepsTo.{Outcome, Went, Left, Died, HasState, Performs}
 use Rattle.ak_relation.specs.Premises.Works.{IsStep, AreFound, Writes, KeepsTables, Ends, exit_of, named_by, CauseIs}
 use Rattle.ak_relation.specs.Relation.Does.{with_rest, turn_to, TurnFollows, past_after, at_moment, GoesTo}
-use Rattle.ak_relation.proofs.Program.Calls.{other_now}
+use Rattle.ak_model.proofs.Tapes.Calls.{other_now}
 use Rattle.ak_relation.proofs.Exits.Interrupted.{few_saved}
 use Rattle.ak_relation.proofs.Runtime.RowPages.{FrameIs, state_said, same_copy, new_copy, areas_stay, breaks_stay, pages_by}
 use Rattle.ak_relation.proofs.Runtime.StepTurns.{works}

@@ -23,14 +23,15 @@ use Rattle.ak_model.proofs.Control.OrderlySteps.{ClustersFit}
 use Rattle.ak_relation.specs.Bytes.SavedFrames.{ByPage}
 use Rattle.ak_relation.specs.State.MachineState.{State}
 use Rattle.ak_relation.specs.Bytes.Contexts.{Gives, GivesNow, reason_for, IsNoted}
-use Rattle.ak_relation.specs.Program.FlatPlaces.{oldest, owing_by, IsAtBy}
+use Rattle.ak_model.specs.Laws.OwedAnswers.{oldest, owing_by}
+use Rattle.ak_relation.specs.Program.FlatPlaces.{IsAtBy}
 use Rattle.ak_relation.specs.Program.Turns.{is_last}
 use Rattle.ak_relation.specs.Program.Reaching.{StaysBy, IsStaying}
 use Rattle.ak_relation.specs.Relation.Stands.{runs_at, Stands}
 use Rattle.ak_relation.specs.Premises.Saving.{missed_in, Saves}
 use Rattle.ak_relation.specs.Premises.Works.{IsStep, KeepsTables, Quits}
 use Rattle.ak_relation.specs.Relation.Does.{at_moment}
-use Rattle.ak_relation.proofs.Program.Calls.{oldest_saved}
+use Rattle.ak_model.proofs.Tapes.Calls.{oldest_saved}
 use Rattle.ak_model.specs.Control.OneTurn.{Leaves}
 use Rattle.ak_relation.proofs.Program.TurnWords.{inputs_with, turned_words}
 use Rattle.ak_relation.proofs.Program.OwnWords.{saved_fits}

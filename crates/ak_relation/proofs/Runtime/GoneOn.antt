@@ -24,7 +24,7 @@ use Rattle.ak_relation.specs.Program.Reaching.{AreReached, CachesGranted, grante
 use Rattle.ak_relation.specs.Relation.Stands.{runs_at, copies_at, BytesStand, Stands}
 use Rattle.ak_relation.specs.Premises.Works.{IsStep, KeepsTables, GoesOn}
 use Rattle.ak_relation.specs.Relation.Does.{at_moment}
-use Rattle.ak_relation.proofs.Program.Granted.{granted-same}
+use Rattle.ak_model.proofs.Misses.Granted.{granted-same}
 use Rattle.ak_relation.proofs.Program.TurnWords.{inputs_with, turned_words}
 use Rattle.ak_relation.proofs.Program.LongerTurns.{all_come, granted-longer, turns-longer, tape-longer}
 use Rattle.ak_relation.proofs.Runtime.StepLaws.{Keeps, laws_going}

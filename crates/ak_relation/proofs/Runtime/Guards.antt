@@ -17,7 +17,8 @@ use Rattle.ak_relation.specs.Bytes.SavedFrames.{SavedFrame, frame_bytes, area_pl
 use Rattle.ak_relation.specs.Bytes.SavedRegisters.{AreWords, AreRegs}
 use Rattle.ak_relation.specs.Bytes.FramesFit.{FrameFits, HasRoom}
 use Rattle.ak_relation.specs.State.MachineState.{State, OfCopy}
-use Rattle.ak_relation.specs.Program.FlatPlaces.{owing, owing_by, IsAtBy}
+use Rattle.ak_model.specs.Laws.OwedAnswers.{owing, owing_by}
+use Rattle.ak_relation.specs.Program.FlatPlaces.{IsAtBy}
 use Rattle.ak_relation.specs.Bytes.Pages.{IsArea, AreasStand, CopiesStand}
 use Rattle.ak_relation.specs.Program.Reaching.{BreaksStand}
 use Rattle.ak_relation.specs.Program.Turns.{ends_by, is_last_call}

@@ -14,7 +14,8 @@ use Rattle.ak_model.specs.Control.RuntimeTurn.{enter}
 use Rattle.ak_model.specs.Tapes.ProgramTurns.{ProgramTurn}
 use Rattle.ak_model.specs.Laws.Orderly.{is_live}
 use Rattle.ak_relation.specs.State.MachineState.{State}
-use Rattle.ak_relation.specs.Program.FlatPlaces.{oldest, owing_by, owing, IsAtBy, Reaches}
+use Rattle.ak_model.specs.Laws.OwedAnswers.{oldest, owing_by, owing}
+use Rattle.ak_relation.specs.Program.FlatPlaces.{IsAtBy, Reaches}
 use Rattle.ak_relation.specs.Bytes.Pages.{AreasStand, CopiesStand}
 use Rattle.ak_relation.specs.Program.Turns.{IsFresh, is_last, has_ended, events_by}
 use Rattle.ak_relation.specs.Program.Reaching.{BreaksStand}

@@ -18,7 +18,8 @@ use Rattle.ak_relation.specs.Bytes.SavedFrames.{frame_bytes}
 use Rattle.ak_relation.specs.Bytes.SavedRegisters.{AreWords, AreRegs}
 use Rattle.ak_relation.specs.State.MachineState.{State}
 use Rattle.ak_relation.specs.Bytes.Contexts.{IsAtStep, SameButRip}
-use Rattle.ak_relation.specs.Program.FlatPlaces.{Owing, Settled, Owed, Unknown, owing, IsAtBy, IsAfterCall}
+use Rattle.ak_model.specs.Laws.OwedAnswers.{Owing, Settled, Owed, Unknown, owing}
+use Rattle.ak_relation.specs.Program.FlatPlaces.{IsAtBy, IsAfterCall}
 use Rattle.ak_relation.specs.Bytes.Pages.{AreasStand, CopiesStand}
 use Rattle.ak_relation.specs.Program.Reaching.{BreaksStand}
 use Rattle.ak_relation.specs.Relation.Stands.{copies_at, runs_at}

@@ -18,7 +18,8 @@ use Rattle.ak_relation.specs.Bytes.SavedFrames.{NoCause}
 use Rattle.ak_relation.specs.Bytes.SavedRegisters.{AreRegs}
 use Rattle.ak_relation.specs.State.MachineState.{State, OfCopy}
 use Rattle.ak_relation.specs.Bytes.Contexts.{Gives}
-use Rattle.ak_relation.specs.Program.FlatPlaces.{owing_running, IsAtBy}
+use Rattle.ak_model.specs.Laws.OwedAnswers.{owing_running}
+use Rattle.ak_relation.specs.Program.FlatPlaces.{IsAtBy}
 use Rattle.ak_relation.specs.Bytes.Pages.{IsArea, AreasStand}
 use Rattle.ak_relation.specs.Program.Reaching.{BreaksStand}
 use Rattle.ak_relation.specs.Program.Turns.{ends_by, is_last, is_last_call, has_ended}
@@ -26,7 +27,7 @@ use Rattle.ak_relation.specs.Relation.Stands.{copies_at, runs_at}
 use Rattle.ak_relation.specs.Premises.Rows.{Row, StateStays, AreasStay, GoesProbing, Reads, kept_bytes, finish_row}
 use Rattle.ak_relation.specs.Premises.StepsTo.{Outcome, HasState, Performs}
 use Rattle.ak_relation.specs.Relation.Does.{with_rest}
-use Rattle.ak_relation.proofs.Program.Calls.{other_now}
+use Rattle.ak_model.proofs.Tapes.Calls.{other_now}
 use Rattle.ak_relation.proofs.Runtime.RowPages.{new_copy, breaks_stay, pages_by}
 use Rattle.ak_relation.proofs.Runtime.Cases.{Case, Comes, last_none, few, found_all, goes_by, leaves_by, kept_pages, state_set}
 use Rattle.ak_relation.proofs.Runtime.RowsBegin.{owing_at, ended_at}

@@ -20,7 +20,7 @@ use Rattle.ak_relation.specs.Bytes.SavedFrames.{area_place, HasFrame}
 use Rattle.ak_relation.specs.Bytes.FramesFit.{FrameFits}
 use Rattle.ak_relation.specs.State.MachineState.{State}
 use Rattle.ak_relation.specs.Bytes.Contexts.{Gives, reason_for, IsNoted, IsByPage}
-use Rattle.ak_relation.specs.Program.FlatPlaces.{owing}
+use Rattle.ak_model.specs.Laws.OwedAnswers.{owing}
 use Rattle.ak_relation.specs.Premises.Rows.{Row, Reads, area_bytes, second_cause, program_row, mode_row, saved_row}
 use Rattle.ak_relation.specs.Premises.StepsTo.{Outcome, Performs}
 use Rattle.ak_relation.specs.Premises.Works.{IsStep, named_by}

@@ -13,10 +13,10 @@ use Rattle.ak_model.specs.Sound.Forced.{queue_by}
 use Rattle.ak_model.specs.Laws.Orderly.{after_turn, IsOrderly, TurnIsOrderly}
 use Rattle.ak_model.proofs.Control.OrderlySteps.{ClustersFit}
 use Rattle.ak_model.proofs.Control.OrderlyTurns.{turn_fits}
-use Rattle.ak_relation.specs.Program.Calls.{calls_by, calls_now, TurnIsAnswered}
+use Rattle.ak_model.specs.Laws.Calls.{calls_by, calls_now, TurnIsAnswered}
 use Rattle.ak_relation.specs.Program.Turns.{events_by, IsFresh, has_ended, IsGoing, LawsStand}
 use Rattle.ak_relation.specs.Premises.Works.{IsStep}
-use Rattle.ak_relation.proofs.Program.CallTurns.{turn-answered}
+use Rattle.ak_model.proofs.Tapes.CallTurns.{turn-answered}
 use Rattle.ak_relation.proofs.Leaves.LeafStands.{earlier_more}
 use Rattle.ak_relation.proofs.Runtime.StepTurns.{no_call, no_miss}
 

@@ -12,7 +12,7 @@ use Rattle.ak_model.specs.Control.RuntimeTurn.{accesses, first_fault, step_fault
 use Rattle.ak_model.specs.Control.Runs.{turn_of, turn}
 use Rattle.ak_model.specs.Tapes.ProgramTurns.{turn_in}
 use Rattle.ak_model.specs.Laws.Orderly.{after_turn}
-use Rattle.ak_relation.specs.Program.Calls.{calls_now}
+use Rattle.ak_model.specs.Laws.Calls.{calls_now}
 use Rattle.ak_relation.specs.Relation.Does.{with_rest}
 use Rattle.ak_relation.specs.Premises.Works.{IsStep, AreFound}
 

@@ -4,7 +4,8 @@ use Rattle.std.specs.Prelude.{Bool, true, false, not, filter, cond, replicate, O
 use Rattle.ak_model.specs.Paging.Histories.{History, Change, Unchanged, Maps, Blocks, Cycles, WritesOut, Loads, Removes, MakesVa, Discards, Enters, Resumes, Exits, Interrupts, change_of}
 use Rattle.ak_model.specs.Paging.Frames.{blocked_at, blocked_after}
 use Rattle.ak_model.specs.Paging.Tracking.{Cycle, without}
-use Rattle.ak_relation.specs.State.TrackSteps.{TrackStep, Cycled, steps_after, steps_of, stamp_of, inside_by, Descend}
+use Rattle.ak_relation.specs.State.TrackSteps.{TrackStep, Cycled, steps_after, steps_of, stamp_of, inside_by}
+use Rattle.ak_model.specs.Laws.Waiting.{Descend}
 
 -- ---- Bounds
 
@@ -67,26 +68,6 @@ stamp_bounded (pair ∷ past) f =
     let grow = steps_grow (change_of pair) (steps_of past) in
     bounded_after (change_of pair) f (length (steps_of past)) (length (steps_of (pair ∷ past))) (stamp_of past f) grow
     (bounded_more (length (steps_of past)) (length (steps_of (pair ∷ past))) _ grow (stamp_bounded past f))
-
--- cycles at this place at most
-abbrev pub AtMost : ℕ → List Cycle → Type 0
-AtMost n [] = Unit {0}
-AtMost n (cycle ∷ older) = (cycle.at ≤ n) × AtMost n older
-
--- at a later place too
-pub at_most_more : (n m : ℕ) (all : List Cycle) → n ≤ m → AtMost n all → AtMost m all
-at_most_more n m [] le h = tt
-at_most_more n m (cycle ∷ older) le h = let low = h.0 in (omega arith, at_most_more n m older le h.1)
-
--- a processor left
-pub at_most_without : (lp n : ℕ) (all : List Cycle) → AtMost n all → AtMost n (map (without lp) all)
-at_most_without lp n [] h = tt
-at_most_without lp n (cycle ∷ older) h = (h.0, at_most_without lp n older h.1)
-
--- cycles that descend
-pub descend_most : (n : ℕ) (all : List Cycle) → Descend n all → AtMost n all
-descend_most n [] h = tt
-descend_most n (cycle ∷ older) h = let high = h.1 in (h.1, at_most_more (cycle.at - 1) n older (omega arith) (descend_most (cycle.at - 1) older h.2))
 
 -- ---- The cycles of the build
 

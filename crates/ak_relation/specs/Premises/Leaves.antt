@@ -7,24 +7,13 @@ use Rattle.ak_model.specs.Paging.Inside.{since}
 use Rattle.ak_relation.specs.State.MachineState.{State}
 use Rattle.ak_relation.specs.Bytes.Pages.{Copies}
 use Rattle.ak_relation.specs.State.Tables.{TablesStand}
-use Rattle.ak_relation.specs.Program.Reaching.{HoldsSince}
+use Rattle.ak_model.specs.Laws.OpenFrames.{HoldsSince}
 use Rattle.ak_relation.specs.Relation.Stands.{copies_at}
+use Rattle.ak_model.specs.Laws.OpenFrames.{KeepsOpen}
 
 -- each page has the copy that it had, or none any more
 abbrev pub AreFewer : Copies → Copies → Type 0
 AreFewer new old = (p : ℕ) → (new p ≡ old p) ⊎ (new p ≡ None)
-
--- the change fills or frees this frame
-abbrev pub takes : Change → ℕ → Bool
-takes (WritesOut g va i k) f = f == g
-takes (Loads g k p va i blocked) f = f == g
-takes (Removes g) f = f == g
-takes (MakesVa g) f = f == g
-takes _ f = false
-
--- it takes no frame that has been open since the entering of a processor that is inside
-abbrev pub KeepsOpen : Layout → History → Change → Type 0
-KeepsOpen layout past c = (lp place f p : ℕ) → since past lp ≡ Some place → HoldsSince layout past place f p → takes c f ≡ false
 
 -- a move that enters and leaves nothing, and changes no register
 pub record LeafKeeps (layout : Layout) (past : History) (pair : Pair) (old new : State) : Type 0 where

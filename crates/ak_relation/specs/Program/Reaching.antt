@@ -21,6 +21,7 @@ use Rattle.ak_model.specs.Misses.KeptTranslations.{granted_since, is_among, same
 use Rattle.ak_relation.specs.Bytes.SavedFrames.{SavedFrame, ByPage, area_place, HasFrame}
 use Rattle.ak_relation.specs.State.MachineState.{Fill, Processor, OfCopy}
 use Rattle.ak_relation.specs.Bytes.Pages.{Copies}
+use Rattle.ak_model.specs.Laws.OpenFrames.{HoldsSince}
 
 -- ---- Cached translations
 
@@ -31,17 +32,6 @@ is_filled fills t = list_any (λ fill. same_access t fill.access) fills
 -- the accesses that a processor's instructions were granted since it entered
 abbrev pub granted_to : Layout → FlatRuns → ℕ → History → Control → List ProgramTurn → List Access
 granted_to layout runs lp past control turns = granted_since layout runs (turn_at lp past control) turns
-
--- a block, if there is one, came after this place
-abbrev pub IsLate : ℕ → Option ℕ → Type 0
-IsLate place None = Unit {0}
-IsLate place (Some block) = place < block
-
--- a frame holds the page, and was blocked after this place, if at all. So it was open at some moment since, and no move has taken
--- it away from a processor that was inside
-pub record HoldsSince (layout : Layout) (past : History) (place f p : ℕ) : Type 0 where
-  pub holds : held layout past f ≡ PageFrame p
-  pub late : IsLate place (blocked_at past f)
 
 -- a cached translation names the frame that holds the page, and was found by a walk since the entering
 pub record IsReachedFill (layout : Layout) (past : History) (place : ℕ) (fill : Fill) : Type 0 where

@@ -19,7 +19,8 @@ use Rattle.ak_model.specs.Sound.ForcedMisses.{MissedBy}
 use Rattle.ak_model.specs.Sound.BreaksAndStop.{BrokenUnkeptBy}
 use Rattle.ak_model.specs.Laws.Orderly.{is_live, IsOrderly}
 use Rattle.ak_model.specs.Laws.Presence.{IsPresent}
-use Rattle.ak_relation.specs.Program.Calls.{calls_by, IsAnswered}
+use Rattle.ak_model.specs.Laws.Calls.{calls_by, IsAnswered}
+use Rattle.ak_model.specs.Laws.EarlierTurns.{AreEarlier}
 
 -- ---- The events of turns
 
@@ -54,11 +55,6 @@ pub record TurnStands (layout : Layout) (runs : FlatRuns) (turn : ProgramTurn) (
 -- each turn stands with those before it
 abbrev pub TurnsStand : Layout → FlatRuns → List ProgramTurn → Type 0
 TurnsStand layout runs turns = EachTurn (TurnStands layout runs) turns
-
--- the turns are of processors that were inside, after histories of this length at most
-abbrev pub AreEarlier : ℕ → List ProgramTurn → Type 0
-AreEarlier n [] = Unit {0}
-AreEarlier n (turn ∷ older) = (inside turn.past turn.lp ≡ true) × (length turn.past ≤ n) × AreEarlier n older
 
 -- ---- Whether the program has ended
 

@@ -8,7 +8,7 @@ use Rattle.ak_core.specs.declared.page.PageType.TheVariants.{Secs, Tcs, Reg, Va}
 use Rattle.ak_model.specs.Paging.Holdings.{Held, FreeFrame, SecsFrame, VaFrame, PageFrame}
 use Rattle.ak_model.specs.Paging.Inside.{processors}
 use Rattle.ak_epcm.specs.Entries.{entry_at}
-use Rattle.ak_relation.specs.State.View.{View}
+use Rattle.ak_model.specs.Paging.Views.{View}
 use Rattle.ak_relation.specs.Bytes.SavedFrames.{number_at}
 use Rattle.ak_relation.specs.State.TrackSteps.{tracked_by, incomplete_by}
 use Rattle.ak_relation.specs.State.MachineState.{SealedPage, State}

@@ -64,10 +64,3 @@ tracked_by layout steps stamp = over_after stamp (cycles_by layout steps)
 -- the last cycle waits for a processor
 abbrev pub incomplete_by : Layout → List TrackStep → Bool
 incomplete_by layout steps = not (last_is_over (cycles_by layout steps))
-
--- ---- The order of cycles
-
--- cycles whose places strictly descend, from at most this place on
-abbrev pub Descend : ℕ → List Cycle → Type 0
-Descend n [] = Unit {0}
-Descend n (cycle ∷ older) = (1 ≤ cycle.at) × (cycle.at ≤ n) × Descend (cycle.at - 1) older

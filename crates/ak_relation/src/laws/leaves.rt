@@ -16,7 +16,8 @@ ghost use Rattle.ak_model.specs.Laws.Presence.{IsPresent};
 ghost use Rattle.ak_model.specs.Paging.Build.{known_pages};
 ghost use Rattle.ak_model.specs.Paging.Histories.{History, change};
 ghost use Rattle.ak_model.specs.Paging.Pages.{all_pages};
-ghost use Rattle.ak_relation.specs.Premises.Leaves.{KeepsOpen, LeafChanges};
+ghost use Rattle.ak_model.specs.Laws.OpenFrames.{KeepsOpen};
+ghost use Rattle.ak_relation.specs.Premises.Leaves.{LeafChanges};
 ghost use Rattle.ak_relation.specs.Premises.Loading.{LoadsFrom};
 ghost use Rattle.ak_relation.specs.Premises.Making.{MakesSlots};
 ghost use Rattle.ak_relation.specs.Premises.WriteOut.{WritesOutTo};
@@ -25,27 +26,19 @@ ghost use Rattle.ak_relation.specs.State.MachineState.{State};
 ghost use Rattle.ak_relation.specs.State.MachineView.{view_in};
 ghost use Rattle.ak_relation.specs.State.TableChanges.{BlocksEntry, FreesEntry, pte_answer, with_block, with_cycle, with_entries, with_mapping, without_sealed_page};
 ghost use Rattle.ak_relation.specs.State.Tables.{TablesStand};
-ghost use Rattle.ak_relation.specs.State.View.{SameView, View, is_leaf, leaf_row, view_of};
+ghost use Rattle.ak_model.specs.Laws.SameViews.{SameView};
+ghost use Rattle.ak_model.specs.Paging.Views.{View, view_of};
+ghost use Rattle.ak_model.specs.Control.LeafRows.{is_leaf, leaf_row};
 ghost use Rattle.std.specs.Prelude.{List, None, false, nat_lt, true, ℕ, ◌<◌, ◌≡◌};
 ghost use Rattle.ak_core.specs.Layout;
 
-/// A leaf is answered by its row over the view of the history. Views that agree in what is read have one row; and where the tables
-/// stand, the machine's own view agrees with that of the history, so that the row over it is the answer.
+/// Where the tables stand, the machine's own view agrees with that of the history in all that rows read, so that the row over it is
+/// the answer.
 pub fn leaf_rows()
-    ensures defined { (layout : Layout.Layout) (past : History) (control : Control) (m : Move) → is_leaf m ≡ true
-        → answer layout past control m ≡ leaf_row (view_of layout past) m }
-    ensures alike { (view other : View) → SameView view other → (m : Move) → leaf_row view m ≡ leaf_row other m }
     ensures same { (layout : Layout.Layout) (past : History) (state : State) → TablesStand layout past state
         → SameView (view_in layout state) (view_of layout past) }
     ensures machine { (layout : Layout.Layout) (past : History) (state : State) → TablesStand layout past state
         → (control : Control) (m : Move) → is_leaf m ≡ true → answer layout past control m ≡ leaf_row (view_in layout state) m }
-{}
-
-/// Where one processor at most is inside, no leaf takes a frame that has been open since the entering of a processor that is inside.
-pub fn leaves_keep_open()
-    ensures { (layout : Layout.Layout) (past : History) (control : Control)
-        → IsPresent layout (record { past = past; control = control })
-        → (m : Move) (a : Answer) → is_leaf m ≡ true → leaf_row (view_of layout past) m ≡ a → KeepsOpen layout past (change m a) }
 {}
 
 /// A leaf with the answer of its row over the machine's own tables is a move, where it shows what it changes. One that is refused

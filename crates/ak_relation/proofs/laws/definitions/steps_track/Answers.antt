@@ -1,10 +1,8 @@
-use Rattle.ak_relation.proofs.Tracking.TrackSteps.{cycles-descend}
 use Rattle.ak_relation.proofs.Tracking.TrackedBy.{tracked-steps, incomplete-steps}
 use Rattle.ak_relation.proofs.laws.definitions.steps_track.Goals as goal
 
 pub returns : goal.returns
 returns c = record {
-  descend = cycles-descend;
   tracks = tracked-steps;
   last = incomplete-steps;
 }

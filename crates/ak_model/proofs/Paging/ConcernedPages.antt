@@ -4,13 +4,13 @@ use Rattle.std.proofs.lemmas.Bool.{eqb-true}
 use Rattle.std.specs.Prelude.{Bool, true, false, ◌&&◌, ◌||◌, Option, None, is_none, ◌==◌, if◌then◌else◌}
 use Rattle.ak_core.specs.Layout.{Layout}
 use Rattle.ak_core.specs.declared.page.Kind.{Kind}
-use Rattle.ak_model.specs.Paging.Pages.{permits}
+use Rattle.ak_model.specs.Paging.Pages.{permits, tcs_page}
 use Rattle.ak_model.specs.Paging.Histories.{History, Pair, Change, Unchanged, Maps, Blocks, Cycles, WritesOut, Loads, Removes, MakesVa, Discards, Enters, Resumes, Exits, Interrupts, change_of}
 use Rattle.ak_model.specs.Paging.Holdings.{Held, FreeFrame, VaFrame, PageFrame, is_page_in, Mapping}
 use Rattle.ak_model.specs.Paging.Frames.{held, held_after, blocked_at, blocked_after}
 use Rattle.ak_model.specs.Paging.PageTable.{pte, pte_after}
-use Rattle.ak_model.specs.Paging.Walk.{flags_allow, walkable}
-use Rattle.ak_relation.specs.State.Concerns.{concerns}
+use Rattle.ak_model.specs.Paging.Walk.{is_preset, flags_allow, walkable, tcs_walkable}
+use Rattle.ak_model.specs.Laws.ConcernedPages.{concerns}
 
 -- a frame with something else in it, if it is this one; neither has the page
 other_frame : (b : Bool) (p : ℕ) (h new : Held) (o n : Option ℕ) → (b ≡ true → is_page_in h p ≡ false) → is_page_in new p ≡ false →
@@ -73,3 +73,12 @@ module _ (layout : Layout) (past : History) (p : ℕ) where
       ap (λ (entry : Mapping). permits layout p kind && (flags_allow entry.flags kind
       && (is_page_in (held layout (pair ∷ past) entry.frame) p && is_none (blocked_at (pair ∷ past) entry.frame)))) (same_entry (change_of pair) h)
       ∙ ap (λ b. permits layout p kind && (flags_allow (pte layout past p).flags kind && b)) (in_frame (change_of pair) (pte layout past p).frame h)
+
+-- nor does it change whether entering finds the TCS
+pub tcs-unconcerned : (layout : Layout) (past : History) (pair : Pair) → concerns (held layout past) (change_of pair) (tcs_page layout) ≡ false →
+    tcs_walkable layout (pair ∷ past) ≡ tcs_walkable layout past
+tcs-unconcerned layout past pair h =
+    let p = tcs_page layout in
+    ap (λ (entry : Mapping). is_preset entry.flags && (is_page_in (held layout (pair ∷ past) entry.frame) p && is_none (blocked_at (pair ∷ past) entry.frame)))
+    (same_entry layout past p (change_of pair) h)
+    ∙ ap (λ b. is_preset (pte layout past p).flags && b) (in_frame layout past p (change_of pair) (pte layout past p).frame h)

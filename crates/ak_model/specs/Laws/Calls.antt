@@ -6,7 +6,7 @@ use Rattle.ak_model.specs.Control.ControlState.{Program, Context, Control}
 use Rattle.ak_model.specs.Control.OneTurn.{Turn, Goes, Leaves}
 use Rattle.ak_model.specs.Tapes.ProgramTurns.{ProgramTurn}
 use Rattle.ak_model.specs.Control.EventTurn.{due}
-use Rattle.ak_relation.specs.Program.FlatPlaces.{Owing, Settled, Owed, Unknown, owing}
+use Rattle.ak_model.specs.Laws.OwedAnswers.{Owing, Settled, Owed, Unknown, owing}
 
 -- one, for a call
 abbrev pub calls_in : Option Event → ℕ
@@ -17,6 +17,11 @@ calls_in _ = 0
 abbrev pub calls_by : List ProgramTurn → ℕ
 calls_by [] = 0
 calls_by (turn ∷ older) = calls_in turn.event + calls_by older
+
+-- how many calls are on a tape
+abbrev pub calls_on : List Event → ℕ
+calls_on [] = 0
+calls_on (event ∷ tape) = calls_in (Some event) + calls_on tape
 
 -- so many calls returned so many values: all, or all but one
 abbrev pub IsReturned : Owing → ℕ → ℕ → Type 0

@@ -1,7 +1,7 @@
 -- The rows of the leaves: the answers of the definitions are those over the view of the history, and views that agree in what is
 -- read give one answer.
 use Rattle.std.proofs.Common.{◌≡◌, ℕ, refl, ap, ◌∙◌}
-use Rattle.std.specs.Prelude.{Bool, true, false, ◌&&◌, not, Option, Some, None, is_some, is_none, nat_lt, ◌==◌, if◌then◌else◌}
+use Rattle.std.specs.Prelude.{Bool, true, false, ◌&&◌, not, Option, Some, None, is_some, nat_lt, ◌==◌, if◌then◌else◌}
 use Rattle.ak_core.specs.Layout.{Layout}
 use Rattle.ak_core.specs.declared.moves.Move.{Move}
 use Rattle.ak_core.specs.declared.moves.Move.TheVariants.{SetPte, ReadPte, Eblock, Etrack, Ewb, Eldu, Eldb, Eremove, Epa, Discard, Eenter, Eresume, Run, Interrupt}
@@ -9,36 +9,25 @@ use Rattle.ak_core.specs.declared.moves.Answer.{Answer}
 use Rattle.ak_core.specs.declared.moves.Answer.TheVariants.{Ok, OkHandle, NotEpc, IsSecs, InUse, Blocked, NotBlocked, NotTracked, PrevIncomplete, BadVa, SlotOccupied, MacFail, NoHandle}
 use Rattle.ak_model.specs.Paging.Histories.{History}
 use Rattle.ak_model.specs.Paging.Holdings.{Held, FreeFrame, SecsFrame, VaFrame, PageFrame, is_va, is_free}
-use Rattle.ak_model.specs.Paging.Frames.{blocked_at}
 use Rattle.ak_model.specs.Control.ControlState.{Control}
-use Rattle.ak_model.specs.Control.Answers.{answer, if_page, mac_answer, remove_by}
-use Rattle.ak_relation.specs.State.View.{View, view_of, frame_row, page_row, has_slot, write_out_row, mac_row, load_row, remove_by_row, leaf_row, is_leaf, SameView}
+use Rattle.ak_model.specs.Control.Answers.{answer}
+use Rattle.ak_model.specs.Control.LeafRows.{if_page}
+use Rattle.ak_model.specs.Paging.Views.{View, view_of}
+use Rattle.ak_model.specs.Control.LeafRows.{frame_row, page_row, has_slot, write_out_row, mac_row, load_row, remove_by_row, leaf_row, is_leaf}
+use Rattle.ak_model.specs.Laws.SameViews.{SameView}
+use Rattle.ak_model.proofs.Paging.SomeoneInside.{other}
 
 -- ---- The answers of the definitions
-
-none_is : (o : Option ℕ) → is_none o ≡ not (is_some o)
-none_is None = refl
-none_is (Some x) = refl
-
-mac_is : (layout : Layout) (past : History) (o : Option ℕ) (k p : ℕ) → mac_answer layout past o k p ≡ mac_row (view_of layout past) o k p
-mac_is layout past None k p = refl
-mac_is layout past (Some j) k p = refl
-
-remove_is : (active : Bool) (h : Held) → remove_by active h ≡ remove_by_row active h
-remove_is active FreeFrame = refl
-remove_is active SecsFrame = refl
-remove_is active VaFrame = refl
-remove_is active (PageFrame p) = refl
 
 -- the answer to a leaf is its row over the view of the history
 pub answer-leaf : (layout : Layout) (past : History) (control : Control) (m : Move) → is_leaf m ≡ true →
     answer layout past control m ≡ leaf_row (view_of layout past) m
 answer-leaf layout past control (Eblock f) h = refl
 answer-leaf layout past control Etrack h = refl
-answer-leaf layout past control (Ewb f va i) h = rw (none_is (blocked_at past f.0)) refl
-answer-leaf layout past control (Eldu f k p va i) h = rw (mac_is layout past) refl
-answer-leaf layout past control (Eldb f k p va i) h = rw (mac_is layout past) refl
-answer-leaf layout past control (Eremove f) h = rw remove_is refl
+answer-leaf layout past control (Ewb f va i) h = refl
+answer-leaf layout past control (Eldu f k p va i) h = refl
+answer-leaf layout past control (Eldb f k p va i) h = refl
+answer-leaf layout past control (Eremove f) h = refl
 answer-leaf layout past control (Epa f) h = refl
 answer-leaf layout past control (Discard k) h = refl
 answer-leaf layout past control (SetPte p f flags) h = cc
@@ -47,6 +36,13 @@ answer-leaf layout past control (Eenter lp v) h = cc
 answer-leaf layout past control (Eresume lp) h = cc
 answer-leaf layout past control (Run lp n) h = cc
 answer-leaf layout past control (Interrupt lp) h = cc
+
+-- ---- What a row says
+
+-- an answer that is neither of the first two
+pub frame_ok : (view : View) (f : ℕ) (x z : Answer) → (NotEpc ≡ z → ⊥) → (IsSecs ≡ z → ⊥) → frame_row view f x ≡ z → x ≡ z
+frame_ok view f x z inside none h =
+    let a = other (not (nat_lt f view.frames)) NotEpc (if f == 0 then IsSecs else x) z inside h in (other (f == 0) IsSecs x z none a.1).1
 
 -- ---- Two views
 

@@ -7,8 +7,8 @@ use Rattle.ak_model.specs.Control.ControlState.{Phase, New, Running, Calling, As
 use Rattle.ak_model.specs.Control.OneTurn.{Turn}
 use Rattle.ak_model.specs.Control.RuntimeTurn.{program_at_bottom, handle, enter, finish, resume_guard, leave_call}
 use Rattle.ak_model.specs.Laws.Orderly.{ContextFits, SavedFits, StackFits}
-use Rattle.ak_relation.specs.Program.FlatPlaces.{Owing, Settled, Owed, Unknown, oldest, owing_running, owing_by, owing}
-use Rattle.ak_relation.specs.Program.Calls.{IsReturned, IsAnswered, TurnIsAnswered}
+use Rattle.ak_model.specs.Laws.OwedAnswers.{Owing, Settled, Owed, Unknown, oldest, owing_running, owing_by, owing}
+use Rattle.ak_model.specs.Laws.Calls.{IsReturned, IsAnswered, TurnIsAnswered}
 
 -- ---- What is owed
 
@@ -26,7 +26,7 @@ oldest_saved (saved ∷ older) context reason = same older
         deeper next (last ∷ older) = deeper last older
 
 -- with something saved it does not matter what is inside
-oldest_any : (saved : Saved) (older : List Saved) (now next : Option Context) → oldest (saved ∷ older) now ≡ oldest (saved ∷ older) next
+pub oldest_any : (saved : Saved) (older : List Saved) (now next : Option Context) → oldest (saved ∷ older) now ≡ oldest (saved ∷ older) next
 oldest_any saved [] now next = refl
 oldest_any saved (deeper ∷ older) now next = oldest_any deeper older now next
 

@@ -1,14 +1,14 @@
 -- No leaf takes a frame that has been open since a processor entered that is inside still.
 use Rattle.std.proofs.Common.{◌≡◌, ℕ, zero, suc, ◌+◌, ◌<◌, refl, ap, sym, ◌∙◌, arith}
 use Rattle.std.proofs.lemmas.Bool.{eqb-true}
-use Rattle.std.specs.Prelude.{Bool, true, false, ◌||◌, not, nat_lt, Option, Some, None, is_some, ◌==◌, if◌then◌else◌}
+use Rattle.std.specs.Prelude.{Bool, true, false, ◌||◌, not, Option, Some, None, is_some, ◌==◌, if◌then◌else◌}
 use Rattle.std.specs.List.{list_any, range_with_len}
 use Rattle.ak_core.specs.Layout.{Layout}
 use Rattle.ak_core.specs.declared.page.Handle.{Handle}
 use Rattle.ak_core.specs.declared.moves.Move.{Move}
 use Rattle.ak_core.specs.declared.moves.Move.TheVariants.{SetPte, ReadPte, Eblock, Etrack, Ewb, Eldu, Eldb, Eremove, Epa, Discard, Eenter, Eresume, Run, Interrupt}
 use Rattle.ak_core.specs.declared.moves.Answer.{Answer}
-use Rattle.ak_core.specs.declared.moves.Answer.TheVariants.{Ok, OkHandle, NotEpc, IsSecs, InUse, NotBlocked, NotTracked}
+use Rattle.ak_core.specs.declared.moves.Answer.TheVariants.{Ok, OkHandle, InUse, NotBlocked, NotTracked}
 use Rattle.ak_model.specs.Paging.Histories.{History, Change, change, if_ok, if_handle}
 use Rattle.ak_model.specs.Paging.Holdings.{Held, FreeFrame, SecsFrame, VaFrame, PageFrame, is_free}
 use Rattle.ak_model.specs.Paging.Frames.{held, blocked_at}
@@ -16,12 +16,13 @@ use Rattle.ak_model.specs.Paging.Inside.{since, inside, someone_inside}
 use Rattle.ak_model.specs.Paging.Tracking.{cycles, over_after, tracked}
 use Rattle.ak_model.specs.Control.ControlState.{Control}
 use Rattle.ak_model.specs.Laws.Presence.{IsPresent}
-use Rattle.ak_model.specs.Control.Answers.{if_page}
+use Rattle.ak_model.specs.Control.LeafRows.{if_page}
+use Rattle.ak_model.proofs.Control.LeafRows.{frame_ok}
 use Rattle.ak_model.proofs.Paging.SomeoneInside.{other}
-use Rattle.ak_relation.specs.State.View.{View, view_of, frame_row, write_out_row, remove_by_row, remove_row, leaf_row, is_leaf}
-use Rattle.ak_relation.specs.Program.Reaching.{IsLate, HoldsSince}
-use Rattle.ak_relation.specs.Premises.Leaves.{takes, KeepsOpen}
-use Rattle.ak_relation.proofs.Leaves.WaitingFor.{not_tracked_since}
+use Rattle.ak_model.specs.Paging.Views.{view_of}
+use Rattle.ak_model.specs.Control.LeafRows.{write_out_row, remove_by_row, remove_row, leaf_row, is_leaf}
+use Rattle.ak_model.specs.Laws.OpenFrames.{IsLate, HoldsSince, takes, KeepsOpen}
+use Rattle.ak_model.proofs.Paging.WaitingFor.{not_tracked_since}
 
 -- ---- A processor inside is one that there is
 
@@ -49,11 +50,6 @@ known-present layout past control h = record {
 }
 
 -- ---- What rows say
-
--- an answer that is neither of the first two
-pub frame_ok : (view : View) (f : ℕ) (x z : Answer) → (NotEpc ≡ z → ⊥) → (IsSecs ≡ z → ⊥) → frame_row view f x ≡ z → x ≡ z
-frame_ok view f x z inside none h =
-    let a = other (not (nat_lt f view.frames)) NotEpc (if f == 0 then IsSecs else x) z inside h in (other (f == 0) IsSecs x z none a.1).1
 
 free_ok : (h : Held) (x : Answer) → (if not (is_free h) then InUse else x) ≡ Ok → h ≡ FreeFrame
 free_ok FreeFrame x e = refl

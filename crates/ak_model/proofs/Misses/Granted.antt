@@ -10,8 +10,8 @@ use Rattle.ak_model.specs.Tapes.LastMoment.{FlatRuns}
 use Rattle.ak_model.specs.Tapes.ProgramTurns.{ProgramTurn}
 use Rattle.ak_model.specs.Misses.Reached.{entered_at, accesses_at}
 use Rattle.ak_model.specs.Misses.KeptTranslations.{completes_by, completed_since, granted_since}
-use Rattle.ak_relation.specs.Program.Turns.{AreEarlier}
-use Rattle.ak_relation.proofs.Program.Staying.{since_past}
+use Rattle.ak_model.specs.Laws.EarlierTurns.{AreEarlier}
+use Rattle.ak_model.proofs.Paging.SincePast.{since_past}
 
 -- ---- The same throughout the stay
 

@@ -14,9 +14,9 @@ use Rattle.ak_model.specs.Control.EventTurn.{due, leave_program, vector_turn, ev
 use Rattle.ak_model.specs.Control.Runs.{turn_of, turn}
 use Rattle.ak_model.specs.Control.Entering.{entered, resumed_by, interrupted_by}
 use Rattle.ak_model.specs.Laws.Orderly.{ContextFits, NowFits, StackFits}
-use Rattle.ak_relation.specs.Program.FlatPlaces.{Settled, Owed, oldest, owing_running, owing_by, owing}
-use Rattle.ak_relation.specs.Program.Calls.{calls_in, IsReturned, IsAnswered, TurnIsAnswered, calls_now}
-use Rattle.ak_relation.proofs.Program.Calls.{oldest_saved, other_now, same, either, entered as enter_answered, empty, probed, finished, guarded_on, left}
+use Rattle.ak_model.specs.Laws.OwedAnswers.{Settled, Owed, oldest, owing_running, owing_by, owing}
+use Rattle.ak_model.specs.Laws.Calls.{calls_in, IsReturned, IsAnswered, TurnIsAnswered, calls_now}
+use Rattle.ak_model.proofs.Tapes.Calls.{oldest_saved, other_now, same, either, entered as enter_answered, empty, probed, finished, guarded_on, left}
 
 module _ (layout : Layout) (control : Control) (calls : ℕ) (old : IsAnswered calls control) where
   -- ---- The runtime
@@ -107,7 +107,7 @@ module _ (layout : Layout) (control : Control) (calls : ℕ) (old : IsAnswered c
   pub entered-answered : (v : ℕ) → control.now ≡ None → IsAnswered calls (entered control v)
   entered-answered v is = same layout control calls old _ (other_now control.phase control.stack control.now (Some (Enter (cssa control) v)) (ap owing_running is) refl) refl
 
-  resumed : (stack : List Saved) → control.stack ≡ stack → control.now ≡ None → IsAnswered calls (resumed_by control stack)
+  pub resumed : (stack : List Saved) → control.stack ≡ stack → control.now ≡ None → IsAnswered calls (resumed_by control stack)
   resumed [] e is = old
   resumed (one ∷ older) e is =
       same layout control calls old _

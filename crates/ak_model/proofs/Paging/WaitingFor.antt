@@ -9,8 +9,7 @@ use Rattle.ak_model.specs.Paging.Histories.{History, Change, Unchanged, Maps, Bl
 use Rattle.ak_model.specs.Paging.Inside.{since, since_after, inside, processors}
 use Rattle.ak_model.specs.Paging.Tracking.{Cycle, without, cycles, cycles_after, is_over, over_after}
 use Rattle.ak_model.proofs.Paging.Tests.{any_in_range}
-use Rattle.ak_relation.proofs.Tracking.TrackSteps.{cycles-descend}
-use Rattle.ak_relation.proofs.Tracking.TrackBounds.{AtMost, descend_most}
+use Rattle.ak_model.proofs.Paging.DescendingCycles.{cycles-descend, AtMost, descend_most}
 
 -- ---- Lists of processors
 

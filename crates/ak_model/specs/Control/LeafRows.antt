@@ -1,54 +1,25 @@
--- What the leaf instructions of the kernel look at, and each one's row over it. The view may be that of a history, or that of a
--- machine's own tables. (SDM volume 3D, "SGX Instruction References".)
-use Rattle.std.specs.Prelude.{◌≡◌, ℕ, Bool, true, false, ◌&&◌, not, Option, Some, None, is_some, nat_lt, ◌==◌, if◌then◌else◌}
-use Rattle.ak_core.specs.Layout.{Layout}
+-- What each leaf instruction of the kernel is answered, by what it looks at. Each row's checks stand in order, and the first that
+-- holds gives the answer. (SDM volume 3D, "SGX Instruction References".)
+use Rattle.std.specs.Prelude.{ℕ, Bool, true, false, ◌&&◌, not, Option, Some, None, is_some, nat_lt, ◌==◌, if◌then◌else◌}
 use Rattle.ak_core.specs.declared.moves.Move.{Move}
 use Rattle.ak_core.specs.declared.moves.Move.TheVariants.{Eblock, Etrack, Ewb, Eldu, Eldb, Eremove, Epa, Discard}
 use Rattle.ak_core.specs.declared.moves.Answer.{Answer}
-use Rattle.ak_core.specs.declared.moves.Answer.TheVariants.{Ok, OkHandle, NotEpc, IsSecs, Free, InUse, Blocked, NotBlocked, NotTracked, PrevIncomplete, BadVa, SlotOccupied, SlotEmpty, MacFail, EnclaveActive, NoHandle}
-use Rattle.ak_model.specs.Paging.Histories.{History}
+use Rattle.ak_core.specs.declared.moves.Answer.TheVariants.{Ok, OkHandle, NotEpc, IsSecs, Free, WrongType, InUse, Blocked, NotBlocked, NotTracked, PrevIncomplete, BadVa, SlotOccupied, SlotEmpty, MacFail, EnclaveActive, NoHandle}
 use Rattle.ak_model.specs.Paging.Holdings.{Held, FreeFrame, SecsFrame, VaFrame, PageFrame, is_va, is_free}
-use Rattle.ak_model.specs.Paging.Frames.{held, blocked_at}
-use Rattle.ak_model.specs.Paging.Handles.{given, page_of, live, slot}
-use Rattle.ak_model.specs.Paging.Inside.{someone_inside}
-use Rattle.ak_model.specs.Paging.Tracking.{tracked, incomplete}
-use Rattle.ak_model.specs.Control.Answers.{if_page}
-
--- the paging state, as the rows of the leaves read it
-pub record View : Type 0 where
-  pub frames : ℕ  -- how many frames there are
-  pub held : ℕ → Held  -- what each frame holds
-  pub blocked : ℕ → Bool  -- the frame's page is blocked
-  pub tracked : ℕ → Bool  -- a tracking cycle since then is over
-  pub slot : ℕ → ℕ → Option ℕ  -- the handle whose version a slot holds
-  pub live : ℕ → Bool  -- the handle was given and not discarded
-  pub page_of : ℕ → ℕ  -- the page that a handle seals
-  pub given : ℕ  -- how many handles were given
-  pub incomplete : Bool  -- the last tracking cycle is not over
-  pub active : Bool  -- a processor is inside
-
--- the view of a history
-abbrev pub view_of : Layout → History → View
-view_of layout past = record {
-  frames = layout.frames;
-  held = held layout past;
-  blocked = λ f. is_some (blocked_at past f);
-  tracked = tracked layout past;
-  slot = slot layout past;
-  live = live layout past;
-  page_of = page_of layout past;
-  given = given layout past;
-  incomplete = incomplete layout past;
-  active = someone_inside layout past;
-}
-
--- ---- Rows
+use Rattle.ak_model.specs.Paging.Views.{View}
 
 -- the answer, unless the frame is none of the page cache's or is the SECS
 abbrev pub frame_row : View → ℕ → Answer → Answer
 frame_row view f answer = if not (nat_lt f view.frames) then NotEpc else (if f == 0 then IsSecs else answer)
 
 -- the answer, unless the frame holds no page of the enclave
+abbrev pub if_page : Held → Answer → Answer
+if_page FreeFrame answer = Free
+if_page SecsFrame answer = IsSecs
+if_page VaFrame answer = WrongType
+if_page (PageFrame p) answer = answer
+
+-- the answer for a frame, unless it holds no page of the enclave
 abbrev pub page_row : View → ℕ → Answer → Answer
 page_row view f answer = frame_row view f (if_page (view.held f) answer)
 
@@ -122,19 +93,3 @@ is_leaf (Eremove f) = true
 is_leaf (Epa f) = true
 is_leaf (Discard k) = true
 is_leaf _ = false
-
--- ---- Two views
-
--- two views agree in all that a row reads: a frame is looked at for a block where it holds a page, for a cycle where it is
--- blocked, and for slots where it is a VA page
-pub record SameView (view other : View) : Type 0 where
-  pub frames : view.frames ≡ other.frames
-  pub held : (f : ℕ) → view.held f ≡ other.held f
-  pub blocked : (f p : ℕ) → other.held f ≡ PageFrame p → view.blocked f ≡ other.blocked f
-  pub tracked : (f p : ℕ) → other.held f ≡ PageFrame p → other.blocked f ≡ true → view.tracked f ≡ other.tracked f
-  pub slot : (va i : ℕ) → other.held va ≡ VaFrame → nat_lt i 512 ≡ true → view.slot va i ≡ other.slot va i
-  pub live : (k : ℕ) → view.live k ≡ other.live k
-  pub page_of : (k : ℕ) → other.live k ≡ true → view.page_of k ≡ other.page_of k
-  pub given : view.given ≡ other.given
-  pub incomplete : view.incomplete ≡ other.incomplete
-  pub active : view.active ≡ other.active
