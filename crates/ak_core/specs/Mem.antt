@@ -2,8 +2,6 @@
 use Rattle.std.specs.Prelude.{◌≡◌, ℕ, ◌+◌, Bool, true, false, ◌&&◌, List, [], ◌∷◌, ◌++◌, take, drop, length, Option, Some, Result, OnOk, IfErr, ◌==◌, if◌then◌else◌}
 use Rattle.std.specs.List.{list_any}
 use Rattle.ak_core.specs.declared.page.Fault.{Fault}
-use Rattle.ak_core.specs.declared.page.Flags.{Flags}
-use Rattle.ak_core.specs.declared.page.Entry.{Entry}
 use Rattle.ak_core.specs.declared.page.Kind.{Kind}
 use Rattle.ak_core.specs.declared.page.Kind.TheVariants.{Write}
 
@@ -44,11 +42,3 @@ with_page bytes p new q = if q == p then new else bytes q
 -- the bytes from a place on are these
 abbrev pub put_at : List ℕ → ℕ → List ℕ → List ℕ
 put_at bytes place new = take place bytes ++ (new ++ drop (place + length new) bytes)
-
--- by what a memory finds its pages: how many pages the page table has, the frame and the flags of each page's entry, and the
--- entries of the EPCM
-pub record Tables : Type 0 where
-  pub pages : ℕ
-  pub frame : ℕ → ℕ
-  pub flags : ℕ → Flags
-  pub entries : List Entry

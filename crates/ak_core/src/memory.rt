@@ -1,6 +1,6 @@
 // Memory as a turn sees it.
 ghost use Rattle.std.specs.Prelude.{◌≡◌, ◌<◌, ◌≤◌, ◌+◌, ℕ, Bool, true, List, [], None, Option, length, slice_index, slice_set};
-ghost use Rattle.ak_core.specs.Mem.{Access, Tables, Touches, access_to, is_touched, is_writable, with_page, put_at};
+ghost use Rattle.ak_core.specs.Mem.{Access, Touches, access_to, is_touched, is_writable, with_page, put_at};
 ghost use Rattle.ak_core.specs.declared.page.Kind.TheVariants.{Read, Write, Exec};
 
 use crate::{Fault, Page};
@@ -20,8 +20,8 @@ pub trait Mem {
     /// The touch that was refused since the turn began, if one was.
     ghost refused: { Self → Option Access };
 
-    /// The tables by which it finds its pages. No call changes them.
-    ghost tables: { Self → Tables };
+    /// What no call changes beside the pages that it holds, from one state to another, as the memory says it.
+    ghost keeps: { Self → Self → Type 0 };
 
     /// A page has 4096 bytes.
     ghost whole: { (m : Self) (p : ℕ) → length (bytes m p) ≡ 4096 };
@@ -32,7 +32,7 @@ pub trait Mem {
         ensures refused { refused self.new ≡ None }
         ensures bytes { bytes self.new ≡ bytes self.old }
         ensures holds { holds self.new ≡ holds self.old }
-        ensures tables { tables self.new ≡ tables self.old };
+        ensures keeps { keeps self.old self.new };
 
     /// Touches a page for reading, or answers that very access.
     fn touch_read(&mut self, p: Page) -> Result<(), Fault>
@@ -40,7 +40,7 @@ pub trait Mem {
         ensures touch { Touches (access_to p.0 Read) result (holds self.old) (granted self.old) (granted self.new) (refused self.old) (refused self.new) }
         ensures bytes { bytes self.new ≡ bytes self.old }
         ensures holds { holds self.new ≡ holds self.old }
-        ensures tables { tables self.new ≡ tables self.old };
+        ensures keeps { keeps self.old self.new };
 
     /// Touches a page for writing, or answers that very access.
     fn touch_write(&mut self, p: Page) -> Result<(), Fault>
@@ -48,7 +48,7 @@ pub trait Mem {
         ensures touch { Touches (access_to p.0 Write) result (holds self.old) (granted self.old) (granted self.new) (refused self.old) (refused self.new) }
         ensures bytes { bytes self.new ≡ bytes self.old }
         ensures holds { holds self.new ≡ holds self.old }
-        ensures tables { tables self.new ≡ tables self.old };
+        ensures keeps { keeps self.old self.new };
 
     /// Touches a page for executing, or answers that very access.
     fn touch_exec(&mut self, p: Page) -> Result<(), Fault>
@@ -56,7 +56,7 @@ pub trait Mem {
         ensures touch { Touches (access_to p.0 Exec) result (holds self.old) (granted self.old) (granted self.new) (refused self.old) (refused self.new) }
         ensures bytes { bytes self.new ≡ bytes self.old }
         ensures holds { holds self.new ≡ holds self.old }
-        ensures tables { tables self.new ≡ tables self.old };
+        ensures keeps { keeps self.old self.new };
 
     /// The 4096 bytes of a page that was touched.
     fn page(&self, p: Page) -> &[u8]
@@ -75,7 +75,7 @@ pub trait Mem {
         requires offset { offset < 4096 }
         ensures bytes { bytes self.new ≡ with_page (bytes self.old) p.0 (slice_set (bytes self.old p.0) offset value) }
         ensures holds { holds self.new ≡ holds self.old }
-        ensures tables { tables self.new ≡ tables self.old }
+        ensures keeps { keeps self.old self.new }
         ensures granted { granted self.new ≡ granted self.old }
         ensures refused { refused self.new ≡ refused self.old };
 
@@ -85,7 +85,7 @@ pub trait Mem {
         requires inside { offset + length from.now ≤ 4096 }
         ensures bytes { bytes self.new ≡ with_page (bytes self.old) p.0 (put_at (bytes self.old p.0) offset from.now) }
         ensures holds { holds self.new ≡ holds self.old }
-        ensures tables { tables self.new ≡ tables self.old }
+        ensures keeps { keeps self.old self.new }
         ensures granted { granted self.new ≡ granted self.old }
         ensures refused { refused self.new ≡ refused self.old };
 
@@ -101,7 +101,13 @@ pub trait Mem {
         requires length { length from.now ≡ 4096 }
         ensures bytes { bytes self.new ≡ with_page (bytes self.old) p.0 from.now }
         ensures holds { holds self.new ≡ holds self.old }
-        ensures tables { tables self.new ≡ tables self.old }
+        ensures keeps { keeps self.old self.new }
         ensures granted { granted self.new ≡ granted self.old }
         ensures refused { refused self.new ≡ refused self.old };
+
+    /// Each state keeps itself.
+    ghost keeps_self: { (a : Self) → keeps a a };
+
+    /// What is kept twice is kept.
+    ghost keeps_on: { (a b c : Self) → keeps a b → keeps b c → keeps a c };
 }

@@ -1,6 +1,7 @@
 -- The memory of four pages that the tests use.
 use Rattle.std.specs.Prelude.{◌≡◌, ℕ, zero, suc, Bool, true, false, ◌&&◌, not, List, [], ◌∷◌, refl, length, replicate, Option, Some, None, nat_lt, slice_index_or, ◌==◌}
 use Rattle.std.specs.List.{list_all}
+use Rattle.std.proofs.Common.{◌∙◌}
 use Rattle.std.proofs.lemmas.List.{length-replicate}
 use Rattle.std.proofs.lemmas.Bool.{eqb-true}
 use Rattle.ak_core.specs.Mem.{Access}
@@ -43,3 +44,15 @@ is_in out p = nat_lt p 4 && not (is_out out p)
 -- the accesses are of the four pages
 abbrev pub are_inside : List Access → Bool
 are_inside accesses = list_all (λ t. nat_lt t.page.0 4) accesses
+
+-- the page that is out stays out
+abbrev pub KeepsOut : Option ℕ → Option ℕ → Type 0
+KeepsOut out out' = out' ≡ out
+
+-- from a state to itself
+pub keeps_out-self : (out : Option ℕ) → KeepsOut out out
+keeps_out-self out = refl
+
+-- and over a state between
+pub keeps_out-on : (a b c : Option ℕ) → KeepsOut a b → KeepsOut b c → KeepsOut a c
+keeps_out-on a b c first then = then ∙ first

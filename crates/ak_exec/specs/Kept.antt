@@ -5,18 +5,18 @@ use Rattle.ak_core.specs.declared.registers.Regs.{Regs}
 use Rattle.ak_exec.specs.Turns.{IfIncomplete, IsVector, KeepsUnwritten, refused_by}
 use Rattle.ak_exec.specs.declared.turn.Turn.{Turn}
 
--- which pages are held, the tables and the bytes stay
+-- what the memory keeps, which pages are held, and the bytes stay
 pub record SameMemory {M : Type 0} (is : IsMem M) (old new : M) : Type 0 where
   pub holds : is.holds new ≡ is.holds old
-  pub tables : is.tables new ≡ is.tables old
+  pub keeps : is.keeps old new
   pub bytes : is.bytes new ≡ is.bytes old
 
--- which pages are held, the tables and the mode stay, and so do the bytes of a page that was not touched for writing; where no
--- instruction is completed, registers and bytes stay too. The end tells the access that was refused, if one was, and a vector
--- that there is
+-- what the memory keeps, which pages are held, and the mode stay, and so do the bytes of a page that was not touched for
+-- writing; where no instruction is completed, registers and bytes stay too. The end tells the access that was refused, if one
+-- was, and a vector that there is
 pub record EndsTurn {M : Type 0} (is : IsMem M) (turn : Turn) (old new : M) (regs regs' : Regs) : Type 0 where
   pub holds : is.holds new ≡ is.holds old
-  pub tables : is.tables new ≡ is.tables old
+  pub keeps : is.keeps old new
   pub mode : regs'.mode ≡ regs.mode
   pub vector : IsVector turn
   pub refused : is.refused new ≡ refused_by turn

@@ -62,7 +62,7 @@ fn perform<M: Mem>(layout: &Layout, regs: &mut Regs, mem: &mut M, instr: Instr, 
 pub fn exec<M: Mem>(layout: &Layout, regs: &mut Regs, mem: &mut M) -> Turn
     requires program { regs.old.mode ≡ Mode.Mode.Program }
     ensures holds { M.holds mem.new ≡ M.holds mem.old }
-    ensures tables { M.tables mem.new ≡ M.tables mem.old }
+    ensures keeps { M.keeps mem.old mem.new }
     ensures mode { regs.new.mode ≡ regs.old.mode }
     ensures vector { IsVector result }
     ensures refused { M.refused mem.new ≡ refused_by result }

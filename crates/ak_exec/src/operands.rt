@@ -137,7 +137,7 @@ fn store_bytes<M: Mem>(mem: &mut M, place: u64, bytes: &[u8])
     requires held { (k : ℕ) → k < length bytes.now → M.holds mem.old ((place + k) / 4096) ≡ true }
     requires low { place + length bytes.now ≤ 4096 * 512 }
     ensures holds { M.holds mem.new ≡ M.holds mem.old }
-    ensures tables { M.tables mem.new ≡ M.tables mem.old }
+    ensures keeps { M.keeps mem.old mem.new }
     ensures granted { M.granted mem.new ≡ M.granted mem.old }
     ensures refused { M.refused mem.new ≡ M.refused mem.old }
     ensures unwritten { KeepsUnwritten (M.granted mem.new) (M.bytes mem.old) (M.bytes mem.new) }
@@ -196,7 +196,7 @@ pub(crate) fn write<M: Mem>(
     requires few { length (M.granted mem.old) ≤ 2 }
     requires unrefused { M.refused mem.old ≡ None }
     ensures holds { M.holds mem.new ≡ M.holds mem.old }
-    ensures tables { M.tables mem.new ≡ M.tables mem.old }
+    ensures keeps { M.keeps mem.old mem.new }
     ensures same { OnErr result (M.bytes mem.new ≡ M.bytes mem.old) }
     ensures unwritten { KeepsUnwritten (M.granted mem.new) (M.bytes mem.old) (M.bytes mem.new) }
     ensures refused { M.refused mem.new ≡ refused_access result }

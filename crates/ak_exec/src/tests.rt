@@ -81,8 +81,7 @@ fn put_slice(page: &mut [u8; 4096], start: usize, from: &[u8])
 }
 
 impl Mem for FourPages {
-    ghost use Rattle.std.specs.Prelude.{[], false};
-    ghost use Rattle.ak_exec.specs.FourPages.{page_of, length-page_of};
+    ghost use Rattle.ak_exec.specs.FourPages.{KeepsOut, keeps_out-self, keeps_out-on, page_of, length-page_of};
 
     ghost holds = { λ m p. is_in m.out p };
 
@@ -92,12 +91,11 @@ impl Mem for FourPages {
 
     ghost refused = { λ m. m.refused };
 
-    ghost tables = { λ m. record {
-      pages = 0;
-      frame = λ p. 0;
-      flags = λ p. record { p = false; w = false; x = false; a = false; d = false };
-      entries = [];
-    } };
+    ghost keeps = { λ a b. KeepsOut a.out b.out };
+
+    ghost keeps_self = { λ a. keeps_out-self a.out };
+
+    ghost keeps_on = { λ a b c first then. keeps_out-on a.out b.out c.out first then };
 
     ghost whole = { λ m p. length-page_of m.pages p m.whole };
 

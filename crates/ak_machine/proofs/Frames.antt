@@ -10,12 +10,12 @@ use Rattle.std.proofs.lemmas.Option.{gets, slice_get_read}
 use Rattle.std.specs.Prelude.{Option, Some, None, Vec, slice_get, nat_lt, if◌then◌else◌}
 use Rattle.std.specs.List.{position_or_len, list_all}
 use Rattle.std.specs.declared.alloc.Global.{Global}
-use Rattle.ak_core.specs.Mem.{Access, Tables, is_touched, is_writable, is_write, with_page}
+use Rattle.ak_core.specs.Mem.{Access, is_touched, is_writable, is_write, with_page}
 use Rattle.ak_core.specs.declared.page.Entry.{Entry}
 use Rattle.ak_epcm.specs.Entries.{entry_at, free_entry, is_of_page, has_page, HasNoFrame, HasDistinctPages}
 use Rattle.ak_epcm.proofs.EntryLists.{valid_in_range}
 use Rattle.ak_walk.proofs.Bridge.{walk_finds-has_page}
-use Rattle.ak_machine.specs.Memory.{Frames, IsWhole, bytes_in, frame_bytes, frame_with, bytes_found, bytes_of, finds}
+use Rattle.ak_machine.specs.Memory.{Tables, Frames, IsWhole, bytes_in, frame_bytes, frame_with, bytes_found, bytes_of, finds}
 
 -- ---- The frame that holds a page
 

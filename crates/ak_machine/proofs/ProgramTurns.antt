@@ -3,7 +3,7 @@ use Rattle.std.proofs.Common.{◌≡◌, ℕ, zero, suc, ◌+◌, List, [], ◌�
 use Rattle.std.specs.Prelude.{Option, Some, None, Bool, option_and_then, ◌==◌, if◌then◌else◌}
 use Rattle.std.specs.List.{list_all}
 use Rattle.ak_core.specs.Layout.{Layout}
-use Rattle.ak_core.specs.Mem.{Access, Tables}
+use Rattle.ak_core.specs.Mem.{Access}
 use Rattle.ak_core.specs.declared.page.Fault.{Fault}
 use Rattle.ak_core.specs.declared.moves.Exit.{Exit}
 use Rattle.ak_core.specs.declared.event.Event.{Event}
@@ -22,7 +22,7 @@ use Rattle.ak_exec.specs.Turns.{Shows, Completes, Raises, Refuses}
 use Rattle.ak_machine.specs.declared.activity.Stage.{Stage}
 use Rattle.ak_machine.specs.declared.activity.Activity.{Activity}
 use Rattle.ak_machine.specs.Served.{IsServedLayout}
-use Rattle.ak_machine.specs.Memory.{is_held, finds}
+use Rattle.ak_machine.specs.Memory.{Tables, is_held, finds}
 use Rattle.ak_machine.specs.Faults.{fault_stage, fault_event}
 use Rattle.ak_machine.specs.State.{State}
 use Rattle.ak_machine.specs.Controls.{GoesOn, IsGoing, control_of}

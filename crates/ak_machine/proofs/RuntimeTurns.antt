@@ -2,7 +2,6 @@
 use Rattle.std.proofs.Common.{◌≡◌, ℕ, zero, suc, ◌+◌, List, [], ◌∷◌, ◌++◌, refl, ap, ◌∙◌, sym, subst, inl, inr, false}
 use Rattle.std.specs.Prelude.{Option, Some, None, ◌⊎◌, if◌then◌else◌}
 use Rattle.ak_core.specs.Layout.{Layout}
-use Rattle.ak_core.specs.Mem.{Tables}
 use Rattle.ak_core.specs.declared.build.Build.{Build}
 use Rattle.ak_core.specs.declared.page.Fault.{Fault}
 use Rattle.ak_core.specs.declared.moves.Exit.{Exit}
@@ -15,6 +14,7 @@ use Rattle.ak_model.specs.Flat.Instructions.{with_reg, rax}
 use Rattle.ak_model.specs.Flat.FlatRuns.{Flat, flat_run, one_more, outputs, zeroed}
 use Rattle.ak_model.specs.Control.RuntimeTurn.{accesses, first_fault, effect, unless_fault, runtime_turn}
 use Rattle.ak_model.proofs.Flat.MoreCallAnswers.{flat_run-longer}
+use Rattle.ak_machine.specs.Memory.{Tables}
 use Rattle.ak_machine.specs.declared.activity.Stage.{Stage}
 use Rattle.ak_machine.specs.declared.activity.Activity.{Activity}
 use Rattle.ak_machine.specs.State.{State}

@@ -5,7 +5,7 @@ use Rattle.std.specs.List.{list_all, list_any}
 use Rattle.std.proofs.lemmas.Bool.{cases_lt}
 use Rattle.std.proofs.lemmas.Bool.Decides.{nat_tests}
 use Rattle.ak_core.specs.Layout.{Layout}
-use Rattle.ak_core.specs.Mem.{Access, Tables}
+use Rattle.ak_core.specs.Mem.{Access}
 use Rattle.ak_model.specs.Paging.Pages.{pages, all_pages, tcs_page, code_page, perm_of, permits, permits_by}
 use Rattle.ak_model.specs.Paging.Histories.{History}
 use Rattle.ak_model.specs.Paging.PageTable.{pte}
@@ -15,7 +15,7 @@ use Rattle.ak_epcm.specs.Entries.{entry_at}
 use Rattle.ak_walk.specs.Finds.{walk_finds}
 use Rattle.ak_walk.proofs.Bridge.{walk_finds-walkable}
 use Rattle.ak_machine.specs.declared.activity.Activity.{Activity}
-use Rattle.ak_machine.specs.Memory.{finds}
+use Rattle.ak_machine.specs.Memory.{Tables, finds}
 use Rattle.ak_machine.specs.Stands.{TablesStand}
 
 -- ---- What a walk finds

@@ -1,9 +1,11 @@
 -- Pages in frames, found by the tables.
 use Rattle.std.specs.Prelude.{◌≡◌, ℕ, Bool, ◌&&◌, List, length, replicate, Option, Some, None, is_some, Vec, position, slice_get, slice_index_or, nat_lt, refl}
+use Rattle.std.proofs.Common.{◌∙◌}
 use Rattle.std.proofs.lemmas.List.{length-replicate}
 use Rattle.std.specs.declared.alloc.Global.{Global}
-use Rattle.ak_core.specs.Mem.{Access, Tables}
+use Rattle.ak_core.specs.Mem.{Access}
 use Rattle.ak_core.specs.declared.page.Entry.{Entry}
+use Rattle.ak_core.specs.declared.page.Flags.{Flags}
 use Rattle.ak_epcm.specs.Entries.{entry_at, has_page}
 use Rattle.ak_pte.specs.Table.{unmapped}
 use Rattle.ak_pte.specs.declared.table.Pte.{Pte}
@@ -71,6 +73,14 @@ length-bytes_of frames entries whole p = length-bytes_found frames (frame_with e
 abbrev pub pte_at : List Pte → ℕ → Pte
 pte_at table p = slice_index_or table p unmapped
 
+-- by what a memory finds its pages: how many pages the page table has, the frame and the flags of each page's entry, and the
+-- entries of the EPCM
+pub record Tables : Type 0 where
+  pub pages : ℕ
+  pub frame : ℕ → ℕ
+  pub flags : ℕ → Flags
+  pub entries : List Entry
+
 -- the page table and the EPCM
 abbrev pub tables_of : List Pte → List Entry → Tables
 tables_of table entries = record {
@@ -79,6 +89,18 @@ tables_of table entries = record {
   flags = λ p. (pte_at table p).flags;
   entries = entries;
 }
+
+-- the tables stay
+abbrev pub KeepsTables : List Pte → List Entry → List Pte → List Entry → Type 0
+KeepsTables table entries table' entries' = tables_of table' entries' ≡ tables_of table entries
+
+-- they stay from a state to itself
+pub keeps_tables-self : (table : List Pte) (entries : List Entry) → KeepsTables table entries table entries
+keeps_tables-self table entries = refl
+
+-- and over a state between
+pub keeps_tables-on : (t u v : List Pte) (x y z : List Entry) → KeepsTables t x u y → KeepsTables u y v z → KeepsTables t x v z
+keeps_tables-on t u v x y z first then = then ∙ first
 
 -- a walk by these tables finds the access
 abbrev pub finds : Tables → Access → Bool

@@ -2,12 +2,11 @@
 use Rattle.std.specs.Prelude.{◌≡◌, ℕ, suc, List, [], Some}
 use Rattle.ak_core.specs.Layout.{Layout}
 use Rattle.ak_core.specs.declared.registers.Regs.{Regs}
-use Rattle.ak_core.specs.Mem.{Tables}
 use Rattle.ak_model.specs.Flat.FlatRuns.{Flat, End, ending, flat_run}
 use Rattle.ak_exec.specs.Turns.{Shows}
 use Rattle.ak_machine.specs.declared.activity.Stage.{Stage}
 use Rattle.ak_machine.specs.declared.activity.Activity.{Activity}
-use Rattle.ak_machine.specs.Memory.{is_held}
+use Rattle.ak_machine.specs.Memory.{Tables, is_held}
 
 -- the flat run came to this state, and has used all values
 abbrev pub Reaches : Layout → List ℕ → List ℕ → ℕ → Flat → Type 0

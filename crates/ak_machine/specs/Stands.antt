@@ -3,7 +3,7 @@ use Rattle.std.specs.Prelude.{◌≡◌, ℕ, ◌<◌, ◌≤◌, Bool, true, fa
 use Rattle.std.specs.List.{list_all}
 use Rattle.ak_core.specs.Layout.{Layout}
 use Rattle.ak_core.specs.Journal.{with_more}
-use Rattle.ak_core.specs.Mem.{Access, Tables}
+use Rattle.ak_core.specs.Mem.{Access}
 use Rattle.ak_core.specs.declared.event.Event.{Event}
 use Rattle.ak_model.specs.Paging.Pages.{all_pages}
 use Rattle.ak_model.specs.Paging.Histories.{History}
@@ -18,6 +18,7 @@ use Rattle.ak_model.specs.Tapes.ProgramTurns.{ProgramTurn}
 use Rattle.ak_model.specs.Misses.FaultingAccess.{MayFault}
 use Rattle.ak_epcm.specs.Entries.{entry_at}
 use Rattle.ak_walk.specs.Agrees.{EntryAgrees}
+use Rattle.ak_machine.specs.Memory.{Tables}
 use Rattle.ak_machine.specs.declared.activity.Stage.{Stage}
 use Rattle.ak_machine.specs.declared.activity.Activity.{Activity}
 use Rattle.ak_machine.specs.State.{State}

@@ -1,11 +1,10 @@
 -- What the relation sees of a machine.
 use Rattle.std.specs.Prelude.{ℕ, List}
 use Rattle.ak_core.specs.Layout.{Layout}
-use Rattle.ak_core.specs.Mem.{Tables}
 use Rattle.ak_core.specs.declared.registers.Regs.{Regs}
 use Rattle.ak_machine.specs.declared.activity.Activity.{Activity}
 use Rattle.ak_machine.specs.declared.machine.Machine.{Machine}
-use Rattle.ak_machine.specs.Memory.{tables_of, bytes_of}
+use Rattle.ak_machine.specs.Memory.{Tables, tables_of, bytes_of}
 
 -- what the processor does next, the program's registers, its completed instructions, the tables by which pages are found,
 -- and the bytes of each page that a frame holds

@@ -119,7 +119,7 @@ fn put(page: &mut Vec<u8>, start: usize, from: &[u8])
 }
 
 impl Mem for Memory {
-    ghost use Rattle.ak_machine.specs.Memory.{is_held, bytes_of, tables_of, length-bytes_of};
+    ghost use Rattle.ak_machine.specs.Memory.{is_held, bytes_of, KeepsTables, keeps_tables-self, keeps_tables-on, length-bytes_of};
 
     ghost holds = { λ m p. is_held m.epcm p };
 
@@ -129,7 +129,11 @@ impl Mem for Memory {
 
     ghost refused = { λ m. m.denied };
 
-    ghost tables = { λ m. tables_of m.table m.epcm };
+    ghost keeps = { λ a b. KeepsTables a.table a.epcm b.table b.epcm };
+
+    ghost keeps_self = { λ a. keeps_tables-self a.table a.epcm };
+
+    ghost keeps_on = { λ a b c first then. keeps_tables-on a.table b.table c.table a.epcm b.epcm c.epcm first then };
 
     ghost whole = { λ m p. length-bytes_of m.frames.items m.epcm m.whole p };
 

@@ -12,7 +12,7 @@ use Rattle.ak_exec.proofs.operands.store_bytes.Goals as goal
 pub loop-i-preserved : goal.loop-i-preserved
 loop-i-preserved g c = record {
   holds = c.store.ensures.holds ∙ c.loop-i.invariant.holds;
-  tables = c.store.ensures.tables ∙ c.loop-i.invariant.tables;
+  keeps = g.met.M.Mem.keeps_on c.args.mem.now c.loop-i.mem c.store.new.self c.loop-i.invariant.keeps c.store.ensures.keeps;
   granted = c.store.ensures.granted ∙ c.loop-i.invariant.granted;
   refused = c.store.ensures.refused ∙ c.loop-i.invariant.refused;
   unwritten = unwritten_more (g.M.Mem.granted c.args.mem.now) (g.M.Mem.bytes c.args.mem.now) (g.M.Mem.bytes c.loop-i.mem) (g.M.Mem.bytes c.store.new.self) ((c.args.place + c.loop-i.i) / 4096) _

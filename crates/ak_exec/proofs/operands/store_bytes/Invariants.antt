@@ -9,7 +9,7 @@ use Rattle.ak_exec.proofs.operands.store_bytes.Given as goal
 abbrev pub invariant-loop-i : goal.invariant-loop-i
 invariant-loop-i g l = record {
   holds : g.M.Mem.holds l.mem ≡ g.M.Mem.holds l.initial.mem;
-  tables : g.M.Mem.tables l.mem ≡ g.M.Mem.tables l.initial.mem;
+  keeps : g.M.Mem.keeps l.initial.mem l.mem;
   granted : g.M.Mem.granted l.mem ≡ g.M.Mem.granted l.initial.mem;
   refused : g.M.Mem.refused l.mem ≡ g.M.Mem.refused l.initial.mem;
   unwritten : KeepsUnwritten (g.M.Mem.granted l.initial.mem) (g.M.Mem.bytes l.initial.mem) (g.M.Mem.bytes l.mem);

@@ -22,7 +22,7 @@ returns-in-Done-clause-turn c = λ image past returned shown events st.
     let m = c.args.self.now in
     let n = c.exec.new.mem in
     done m.layout image past (state_of m) returned shown events c.exec.new.regs (tables_of n.table n.epcm) (bytes_of n.frames.items n.epcm) n.touched.items
-    c.requires.running c.in-Done.ensures.tables c.in-Done.ensures.line n.found st
+    c.requires.running c.in-Done.ensures.keeps c.in-Done.ensures.line n.found st
 
 pub returns-in-Called-clause-turn : goal.returns-in-Called-clause-turn
 returns-in-Called-clause-turn c = λ image past returned shown events st.
@@ -39,14 +39,14 @@ returns-in-Called-clause-turn c = λ image past returned shown events st.
     let e : m.count ≡ m.count + 1 - 1 = omega arith in
     subst P e
     (called m.layout image past (state_of m) returned shown events c.in-Called.number c.in-Called.argument c.exec.new.regs (tables_of n.table n.epcm) (bytes_of n.frames.items n.epcm)
-    n.touched.items c.requires.running c.in-Called.ensures.tables c.in-Called.ensures.line n.found st)
+    n.touched.items c.requires.running c.in-Called.ensures.keeps c.in-Called.ensures.line n.found st)
 
 pub returns-in-Trapped-clause-turn : goal.returns-in-Trapped-clause-turn
 returns-in-Trapped-clause-turn c = λ image past returned shown events st.
     let m = c.args.self.now in
     let n = c.exec.new.mem in
     raised m.layout image past (state_of m) returned shown events c.in-Trapped.vector c.exec.new.regs (tables_of n.table n.epcm) (bytes_of n.frames.items n.epcm) n.touched.items
-    c.requires.running c.in-Trapped.ensures.same_registers c.in-Trapped.ensures.tables c.in-Trapped.ensures.same_bytes (vector_other c.in-Trapped.vector c.in-Trapped.ensures.vector)
+    c.requires.running c.in-Trapped.ensures.same_registers c.in-Trapped.ensures.keeps c.in-Trapped.ensures.same_bytes (vector_other c.in-Trapped.vector c.in-Trapped.ensures.vector)
     c.in-Trapped.ensures.line n.found st
 
 pub returns-in-Faulted-clause-turn : goal.returns-in-Faulted-clause-turn
@@ -68,7 +68,7 @@ returns-in-Faulted-clause-turn c = λ image past returned shown events st.
     subst P exit
     (subst S (sym c.left_at.ensures)
     (faulted m.layout image past (state_of m) returned shown events access c.exec.new.regs (tables_of n.table n.epcm) (bytes_of n.frames.items n.epcm) n.touched.items
-    m.served c.requires.running c.in-Faulted.ensures.same_registers c.in-Faulted.ensures.tables c.in-Faulted.ensures.same_bytes
+    m.served c.requires.running c.in-Faulted.ensures.same_registers c.in-Faulted.ensures.keeps c.in-Faulted.ensures.same_bytes
     c.in-Faulted.ensures.line n.found (n.lost access c.in-Faulted.ensures.refused) st))
 
 pub returns-in-Faulted-clause-note : goal.returns-in-Faulted-clause-note
