@@ -11,7 +11,7 @@ use Rattle.ak_model.proofs.Rows.ValidLayouts.{valid_a}
 use Rattle.ak_epcm.specs.Entries.{entry_at}
 use Rattle.ak_relation.specs.State.MachineState.{SealedPage, State}
 use Rattle.ak_relation.specs.State.MachineView.{view_in}
-use Rattle.ak_relation.specs.State.View.{leaf_row}
+use Rattle.ak_model.specs.Control.LeafRows.{leaf_row}
 use Rattle.ak_relation.specs.State.TableChanges.{BlocksEntry, with_block, with_cycle}
 use Rattle.ak_relation.specs.Premises.WriteOut.{sealed_page_of, WritesOutTo}
 use Rattle.ak_relation.specs.Relation.Does.{IsMove}
