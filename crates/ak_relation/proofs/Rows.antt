@@ -4,3 +4,6 @@ pub mod BuiltMachine
 pub mod EnteredMachine
 pub mod WrittenMachine
 pub mod ResumedMachine
+pub mod ProgramMachine
+pub mod StartedMachine
+pub mod ComputedMachine

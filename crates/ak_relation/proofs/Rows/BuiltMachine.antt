@@ -85,7 +85,7 @@ program_sealed = record { kind = Reg; page = 0; r = true; w = false; x = true; b
 abbrev pub built_sealed : ℕ → Option SealedPage
 built_sealed k = if k == 0 then Some program_sealed else None
 
-image_whole : length no_operations ≡ 4096
+pub image_whole : length no_operations ≡ 4096
 unfolding no_operations
 image_whole = length-replicate {A = ℕ} 4096 144
 
