@@ -7,3 +7,4 @@ pub mod ResumedMachine
 pub mod ProgramMachine
 pub mod StartedMachine
 pub mod ComputedMachine
+pub mod MissedMachine

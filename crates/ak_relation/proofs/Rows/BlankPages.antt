@@ -117,3 +117,19 @@ same_kept = (later_number 23 8, clusters, same_drop)
     clusters i =
         let e : 1024 + 2 * i ≡ suc (1023 + 2 * i) = omega arith in
         ap (λ place. number_at one_slot place 2) e ∙ later_number (1023 + 2 * i) 2
+
+-- a TCS with one context saved, that refuses to be resumed
+unfoldable pub one_refused : List ℕ
+one_refused = replicate 24 0 ++ (1 ∷ replicate 47 0 ++ (1 ∷ replicate 4023 0))
+
+pub one_refused_whole : length one_refused ≡ 4096
+unfolding one_refused
+one_refused_whole = ap (λ n. 73 + n) (length-replicate {A = ℕ} 4023 0)
+
+pub refused_saved : number_at one_refused 24 4 ≡ 1
+unfolding one_refused
+refused_saved = refl
+
+pub refused_flag : number_at one_refused 72 1 ≡ 1
+unfolding one_refused
+refused_flag = refl

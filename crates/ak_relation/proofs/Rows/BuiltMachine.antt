@@ -156,5 +156,5 @@ is_built = record {
 }
 
 -- some machine is built
-pub built_reached : IsReached built_past
+pub built_reached : IsReached built_past []
 built_reached = (built, record { valid = valid_a; moves = (is_built, refl) })

@@ -104,5 +104,5 @@ compute_reached : AreMoves one_page no_operations computed_past computed []
 compute_reached = (begun, [], None, begin_reached, run_move, refl)
 
 -- some machine has cached a translation, and completed an instruction
-pub computed_reached : IsReached computed_past
+pub computed_reached : IsReached computed_past []
 computed_reached = (computed, record { valid = valid_a; moves = compute_reached })

@@ -78,7 +78,7 @@ pub enter_reached : AreMoves one_page no_operations entered_past entered []
 enter_reached = (built, [], None, (is_built, refl), enter_move, refl)
 
 -- some machine has entered
-pub entered_reached : IsReached entered_past
+pub entered_reached : IsReached entered_past []
 entered_reached = (entered, record { valid = valid_a; moves = enter_reached })
 
 -- ---- The interrupt
@@ -159,5 +159,5 @@ pub interrupt_reached : AreMoves one_page no_operations interrupted_past interru
 interrupt_reached = (entered, [], None, enter_reached, interrupt_move, refl)
 
 -- some machine has been interrupted
-pub interrupted_reached : IsReached interrupted_past
+pub interrupted_reached : IsReached interrupted_past []
 interrupted_reached = (interrupted, record { valid = valid_a; moves = interrupt_reached })

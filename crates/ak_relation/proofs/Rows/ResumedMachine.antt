@@ -176,5 +176,5 @@ resume_reached : AreMoves one_page no_operations resumed_past resumed []
 resume_reached = (mapped, [], None, map_reached, resume_move, refl)
 
 -- some machine was resumed from the area in its other frame
-pub resumed_reached : IsReached resumed_past
+pub resumed_reached : IsReached resumed_past []
 resumed_reached = (resumed, record { valid = valid_a; moves = resume_reached })

@@ -137,5 +137,5 @@ pub write_reached : AreMoves one_page no_operations written_past written []
 write_reached = (cycled, [], None, cycle_reached, write_move, refl)
 
 -- some machine has written the area out
-pub written_reached : IsReached written_past
+pub written_reached : IsReached written_past []
 written_reached = (written, record { valid = valid_a; moves = write_reached })

@@ -1,6 +1,7 @@
 -- An example: an enclave of one page, and moments of it that some machine reaches.
 use Rattle.std.specs.Prelude.{ℕ, List, [], ◌∷◌, replicate}
 use Rattle.ak_core.specs.Layout.{Layout}
+use Rattle.ak_core.specs.declared.event.Event.{Event}
 use Rattle.ak_core.specs.declared.build.Build.TheVariants.{Sealed}
 use Rattle.ak_core.specs.declared.page.Perm.TheVariants.{Rw, Rx}
 use Rattle.ak_core.specs.declared.moves.Move.TheVariants.{SetPte, Eblock, Etrack, Ewb, Eldu, Eenter, Eresume, Run, Interrupt}
@@ -8,7 +9,8 @@ use Rattle.ak_core.specs.declared.moves.Answer.{Answer}
 use Rattle.ak_core.specs.declared.moves.Answer.TheVariants.{Ok, OkHandle}
 use Rattle.ak_core.specs.declared.moves.Exit.{Exit}
 use Rattle.ak_model.specs.Paging.Histories.{History}
-use Rattle.ak_model.specs.Paging.Pages.{flags_for}
+use Rattle.ak_model.specs.Paging.Pages.{flags_for, no_flags}
+use Rattle.ak_model.specs.Control.RuntimeTurn.{shown_fault}
 use Rattle.ak_relation.specs.State.MachineState.{State}
 use Rattle.ak_relation.specs.Relation.MoveByMove.{HasMoved}
 
@@ -70,6 +72,17 @@ begun_past = (Eenter (record { 0 = 0 }) 7, Ok) ∷ shown_past
 abbrev pub computed_past : History
 computed_past = (Run (record { 0 = 0 }) 2, Answer.Exit Exit.Still) ∷ begun_past
 
--- some machine went through these moves, with no event of the program
-abbrev pub IsReached : History → Type 0
-IsReached past = (state : State) × HasMoved one_page no_operations past state []
+-- or one, after which the page is not mapped any more
+abbrev pub started_past : History
+started_past = (Run (record { 0 = 0 }) 1, Answer.Exit Exit.Still) ∷ begun_past
+
+abbrev pub hidden_past : History
+hidden_past = (SetPte (record { 0 = 0 }) (record { 0 = 0 }) no_flags, Ok) ∷ started_past
+
+-- and the program misses it
+abbrev pub missed_past : History
+missed_past = (Run (record { 0 = 0 }) 1, Answer.Exit (shown_fault one_page)) ∷ hidden_past
+
+-- some machine went through these moves, with these events of the program
+abbrev pub IsReached : History → List Event → Type 0
+IsReached past events = (state : State) × HasMoved one_page no_operations past state events
