@@ -10,7 +10,6 @@ use Rattle.ak_core.specs.declared.registers.Regs.{Regs}
 use Rattle.ak_model.specs.Flat.Encodings.{decode}
 use Rattle.ak_model.specs.Flat.FlatRuns.{Flat, End, line_of, in_first_page, line, end_of, page_bytes}
 use Rattle.ak_model.specs.Misses.KeptTranslations.{is_among, same_access}
-use Rattle.ak_model.proofs.Rows.ValidLayouts.{valid_a}
 use Rattle.ak_relation.specs.State.MachineState.{Fill, Processor, State}
 use Rattle.ak_relation.specs.Program.Reaching.{is_filled}
 use Rattle.ak_relation.specs.Program.Seeing.{Sees}
@@ -20,7 +19,7 @@ use Rattle.ak_relation.specs.Relation.MoveByMove.{AreMoves}
 use Rattle.ak_relation.specs.Relation.Example.{one_page, no_operations, computed_past, IsReached}
 use Rattle.ak_relation.proofs.Program.ComputedTurns.{computed_turns}
 use Rattle.ak_relation.proofs.Runs.WholeRuns.{still_moves}
-use Rattle.ak_relation.proofs.Rows.BuiltMachine.{outside}
+use Rattle.ak_relation.proofs.Rows.BuiltMachine.{page_valid, outside}
 use Rattle.ak_relation.proofs.Rows.ProgramMachine.{begun, begin_reached}
 use Rattle.ak_relation.proofs.Rows.StartedMachine.{first_regs, starting, started, started_whole, start_turn}
 
@@ -105,4 +104,4 @@ compute_reached = (begun, [], None, begin_reached, run_move, refl)
 
 -- some machine has cached a translation, and completed an instruction
 pub computed_reached : IsReached computed_past []
-computed_reached = (computed, record { valid = valid_a; moves = compute_reached })
+computed_reached = (computed, record { valid = page_valid; moves = compute_reached })

@@ -16,7 +16,6 @@ use Rattle.ak_model.specs.Control.RuntimeTurn.{shown_fault}
 use Rattle.ak_model.specs.Flat.Instructions.{Plan, RaisesVector, Computes, Reads, Writes, CallsOut, plan}
 use Rattle.ak_model.specs.Flat.Encodings.{decode}
 use Rattle.ak_model.specs.Flat.FlatRuns.{Flat, Line, carry_out, is_program, rest_of_page, in_first_page, line}
-use Rattle.ak_model.proofs.Rows.ValidLayouts.{valid_a}
 use Rattle.ak_relation.specs.Bytes.SavedFrames.{ByPage, SavedFrame, frame_bytes}
 use Rattle.ak_relation.specs.Program.Seeing.{Sees}
 use Rattle.ak_relation.specs.State.MachineState.{State}
@@ -31,7 +30,7 @@ use Rattle.ak_relation.proofs.Exits.ExitTurns.{miss_turns}
 use Rattle.ak_relation.proofs.Leaves.DoneMoves.{set_pte_moves}
 use Rattle.ak_relation.proofs.Runs.WholeRuns.{still_moves, exit_moves}
 use Rattle.ak_relation.proofs.Rows.BlankPages.{area_with, area_whole, area_has, one_refused, one_refused_whole, refused_saved, refused_flag}
-use Rattle.ak_relation.proofs.Rows.BuiltMachine.{outside}
+use Rattle.ak_relation.proofs.Rows.BuiltMachine.{page_valid, outside}
 use Rattle.ak_relation.proofs.Rows.ProgramMachine.{begun, begin_reached}
 use Rattle.ak_relation.proofs.Rows.StartedMachine.{first_regs, starting, started, started_whole, start_turn}
 
@@ -142,7 +141,7 @@ faults flat seen = record {
 }
 
 miss_turn : IsTurn one_page 0 hidden missed (Some (shown_fault one_page)) (Some (Miss 0 0))
-miss_turn = miss_turns one_page valid_a 0 hidden missed refl fetch faults refl (λ tcs. saves)
+miss_turn = miss_turns one_page page_valid 0 hidden missed refl fetch faults refl (λ tcs. saves)
 
 miss_move : IsMove one_page hidden missed (Run (record { 0 = 0 }) 1) (Answer.Exit (shown_fault one_page)) (Some (Miss 0 0))
 miss_move =
@@ -161,4 +160,4 @@ miss_reached = (hidden, [], Some (Miss 0 0), hide_reached, miss_move, refl)
 
 -- some machine has an event
 pub missed_reached : IsReached missed_past (Miss 0 0 ∷ [])
-missed_reached = (missed, record { valid = valid_a; moves = miss_reached })
+missed_reached = (missed, record { valid = page_valid; moves = miss_reached })

@@ -27,9 +27,8 @@ use Rattle.ak_relation.proofs.Runtime.FrameWrites.{writes_by}
 use Rattle.ak_relation.proofs.Runtime.ValidTurns.{valid_turns}
 use Rattle.ak_relation.proofs.Entering.EnterAnswers.{walk_same}
 use Rattle.ak_relation.proofs.Leaves.ViewStands.{view-same}
-use Rattle.ak_model.proofs.Rows.ValidLayouts.{valid_a}
 use Rattle.ak_relation.proofs.Rows.BlankPages.{blank, blank_at, one_slot, one_slot_whole, slot_number, same_kept}
-use Rattle.ak_relation.proofs.Rows.BuiltMachine.{outside}
+use Rattle.ak_relation.proofs.Rows.BuiltMachine.{page_valid, outside}
 use Rattle.ak_relation.proofs.Rows.EnteredMachine.{its_regs}
 use Rattle.ak_relation.proofs.Rows.ProgramMachine.{fetched_frames, fetched_whole, begun}
 
@@ -213,4 +212,4 @@ shows = record {
 
 -- the turn
 pub start_turn : IsTurn one_page 0 begun started None None
-start_turn = valid_turns one_page valid_a refl (record { 0 = 0 }) begun started Went shows
+start_turn = valid_turns one_page page_valid refl (record { 0 = 0 }) begun started Went shows
