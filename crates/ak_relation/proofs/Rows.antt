@@ -4,3 +4,7 @@ pub mod BuiltMachine
 pub mod EnteredMachine
 pub mod WrittenMachine
 pub mod ResumedMachine
+pub mod ProgramMachine
+pub mod StartedMachine
+pub mod ComputedMachine
+pub mod MissedMachine

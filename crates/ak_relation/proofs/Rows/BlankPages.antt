@@ -97,3 +97,39 @@ other_than_second (suc (suc j)) other =
     let e : 8 * suc (suc j) ≡ suc (suc (suc (suc (suc (suc (suc (suc (suc (7 + 8 * j))))))))) = omega arith in
     ap (λ place. number_at (1 ∷ 0 ∷ 0 ∷ 0 ∷ 0 ∷ 0 ∷ 0 ∷ 0 ∷ 2 ∷ replicate 4087 0) place 8) e ∙ zero_at 4087 (7 + 8 * j) 8
     ∙ sym (other_slots (suc j))
+
+-- the page with the first version, as STATE: it has phase 1, no queue, and a blank frame
+pub slot_number : number_at one_slot 0 8 ≡ 1
+slot_number = first_slot
+
+later_number : (place count : ℕ) → number_at one_slot (suc place) count ≡ 0
+unfolding one_slot
+later_number place count = zero_at 4095 place count
+
+same_drop : take 200 (drop 2048 one_slot) ≡ take 200 (drop 2048 blank)
+unfolding one_slot blank
+same_drop = ap (take 200) (drop-replicate 2047 4095 0 ∙ sym (drop-replicate 2048 4096 0))
+
+pub same_kept : (number_at one_slot 24 8 ≡ 0) × ((i : ℕ) → number_at one_slot (1024 + 2 * i) 2 ≡ 0) × (take 200 (drop 2048 one_slot) ≡ take 200 (drop 2048 blank))
+same_kept = (later_number 23 8, clusters, same_drop)
+  where
+    clusters : (i : ℕ) → number_at one_slot (1024 + 2 * i) 2 ≡ 0
+    clusters i =
+        let e : 1024 + 2 * i ≡ suc (1023 + 2 * i) = omega arith in
+        ap (λ place. number_at one_slot place 2) e ∙ later_number (1023 + 2 * i) 2
+
+-- a TCS with one context saved, that refuses to be resumed
+unfoldable pub one_refused : List ℕ
+one_refused = replicate 24 0 ++ (1 ∷ replicate 47 0 ++ (1 ∷ replicate 4023 0))
+
+pub one_refused_whole : length one_refused ≡ 4096
+unfolding one_refused
+one_refused_whole = ap (λ n. 73 + n) (length-replicate {A = ℕ} 4023 0)
+
+pub refused_saved : number_at one_refused 24 4 ≡ 1
+unfolding one_refused
+refused_saved = refl
+
+pub refused_flag : number_at one_refused 72 1 ≡ 1
+unfolding one_refused
+refused_flag = refl

@@ -4,6 +4,7 @@ use Rattle.std.proofs.lemmas.Bool.Decides.{nat_tests}
 use Rattle.std.proofs.lemmas.List.{length-replicate, take_all}
 use Rattle.std.proofs.lemmas.List.Elements.{All-replicate}
 use Rattle.std.specs.Prelude.{Bool, true, false, nat_lt, Option, Some, None, ◌==◌, if◌then◌else◌}
+use Rattle.ak_core.specs.Layout.{IsValid, enclave_size}
 use Rattle.ak_core.specs.declared.page.Entry.{Entry}
 use Rattle.ak_core.specs.declared.page.PageType.{PageType}
 use Rattle.ak_core.specs.declared.page.PageType.TheVariants.{Secs, Tcs, Reg, Va}
@@ -15,7 +16,6 @@ use Rattle.ak_model.specs.Paging.Frames.{held}
 use Rattle.ak_model.specs.Paging.Handles.{slot, live, page_of}
 use Rattle.ak_model.specs.Flat.FlatRuns.{zeroed, page_bytes}
 use Rattle.ak_model.proofs.Paging.OneCopy.{one_copy}
-use Rattle.ak_model.proofs.Rows.ValidLayouts.{valid_a}
 use Rattle.ak_epcm.specs.Entries.{entry_at}
 use Rattle.ak_walk.specs.Agrees.{EntryAgrees}
 use Rattle.ak_relation.specs.Bytes.SavedFrames.{number_at}
@@ -26,6 +26,25 @@ use Rattle.ak_relation.specs.Premises.Built.{first_state, IsBuilt}
 use Rattle.ak_relation.specs.Relation.Stands.{copies_at}
 use Rattle.ak_relation.specs.Relation.Example.{one_page, no_operations, built_past, IsReached}
 use Rattle.ak_relation.proofs.Rows.BlankPages.{blank, blank_at, blank_whole, one_slot, one_slot_whole, first_slot, other_slots}
+
+-- the layout is valid
+pub page_valid : IsValid one_page
+unfolding enclave_size
+page_valid = record {
+  clustered = refl;
+  numbered = refl;
+  some_page = omega arith;
+  few_pages = omega arith;
+  aligned = refl;
+  low = omega arith;
+  entered = omega arith;
+  large_budget = omega arith;
+  small_budget = omega arith;
+  some_frames = omega arith;
+  few_frames = omega arith;
+  some_lp = omega arith;
+  few_lps = omega arith;
+}
 
 -- ---- The EPCM
 
@@ -85,7 +104,7 @@ program_sealed = record { kind = Reg; page = 0; r = true; w = false; x = true; b
 abbrev pub built_sealed : ℕ → Option SealedPage
 built_sealed k = if k == 0 then Some program_sealed else None
 
-image_whole : length no_operations ≡ 4096
+pub image_whole : length no_operations ≡ 4096
 unfolding no_operations
 image_whole = length-replicate {A = ℕ} 4096 144
 
@@ -156,5 +175,5 @@ is_built = record {
 }
 
 -- some machine is built
-pub built_reached : IsReached built_past
-built_reached = (built, record { valid = valid_a; moves = (is_built, refl) })
+pub built_reached : IsReached built_past []
+built_reached = (built, record { valid = page_valid; moves = (is_built, refl) })

@@ -5,7 +5,6 @@ use Rattle.ak_core.specs.declared.page.Lp.{Lp}
 use Rattle.ak_core.specs.declared.moves.Move.TheVariants.{Eenter, Interrupt}
 use Rattle.ak_core.specs.declared.moves.Answer.TheVariants.{Ok}
 use Rattle.ak_core.specs.declared.registers.Regs.{Regs}
-use Rattle.ak_model.proofs.Rows.ValidLayouts.{valid_a}
 use Rattle.ak_relation.specs.Bytes.SavedFrames.{NoCause, SavedFrame, frame_bytes}
 use Rattle.ak_relation.specs.Bytes.SavedRegisters.{AreRegs}
 use Rattle.ak_relation.specs.Bytes.Contexts.{entry_regs}
@@ -21,7 +20,7 @@ use Rattle.ak_relation.specs.Relation.Example.{one_page, no_operations, entered_
 use Rattle.ak_relation.proofs.Entering.EnterMoves.{enter_moves}
 use Rattle.ak_relation.proofs.Exits.InterruptMoves.{interrupt_moves}
 use Rattle.ak_relation.proofs.Rows.BlankPages.{blank, blank_at, one_saved, one_saved_whole, one_saved_at, none_refused, area_with, area_whole, area_has}
-use Rattle.ak_relation.proofs.Rows.BuiltMachine.{built_frames, built_whole, outside, built, is_built}
+use Rattle.ak_relation.proofs.Rows.BuiltMachine.{page_valid, built_frames, built_whole, outside, built, is_built}
 
 -- the only processor
 abbrev only : Lp
@@ -78,8 +77,8 @@ pub enter_reached : AreMoves one_page no_operations entered_past entered []
 enter_reached = (built, [], None, (is_built, refl), enter_move, refl)
 
 -- some machine has entered
-pub entered_reached : IsReached entered_past
-entered_reached = (entered, record { valid = valid_a; moves = enter_reached })
+pub entered_reached : IsReached entered_past []
+entered_reached = (entered, record { valid = page_valid; moves = enter_reached })
 
 -- ---- The interrupt
 
@@ -159,5 +158,5 @@ pub interrupt_reached : AreMoves one_page no_operations interrupted_past interru
 interrupt_reached = (entered, [], None, enter_reached, interrupt_move, refl)
 
 -- some machine has been interrupted
-pub interrupted_reached : IsReached interrupted_past
-interrupted_reached = (interrupted, record { valid = valid_a; moves = interrupt_reached })
+pub interrupted_reached : IsReached interrupted_past []
+interrupted_reached = (interrupted, record { valid = page_valid; moves = interrupt_reached })

@@ -8,7 +8,6 @@ use Rattle.ak_core.specs.declared.page.Perm.TheVariants.{Rw}
 use Rattle.ak_core.specs.declared.moves.Move.TheVariants.{Eldu, SetPte, Eresume}
 use Rattle.ak_core.specs.declared.moves.Answer.TheVariants.{Ok}
 use Rattle.ak_model.specs.Paging.Pages.{flags_for}
-use Rattle.ak_model.proofs.Rows.ValidLayouts.{valid_a}
 use Rattle.ak_epcm.specs.Entries.{entry_at}
 use Rattle.ak_relation.specs.State.MachineState.{Processor, State}
 use Rattle.ak_relation.specs.State.MachineView.{view_in}
@@ -27,7 +26,7 @@ use Rattle.ak_relation.proofs.Leaves.DoneMoves.{set_pte_moves}
 use Rattle.ak_relation.proofs.Entering.EnterMoves.{resume_moves}
 use Rattle.ak_relation.proofs.Entering.LoadedRegisters.{area_back}
 use Rattle.ak_relation.proofs.Rows.BlankPages.{blank, blank_at, blank_whole, one_slot, two_slots, one_slot_whole, one_saved, one_saved_at, area_with, area_whole, area_has, other_slots, other_than_second}
-use Rattle.ak_relation.proofs.Rows.BuiltMachine.{in_use, outside}
+use Rattle.ak_relation.proofs.Rows.BuiltMachine.{page_valid, in_use, outside}
 use Rattle.ak_relation.proofs.Rows.EnteredMachine.{its_regs, its_frame, its_words, frame_size, saved_frames, saved_whole}
 use Rattle.ak_relation.proofs.Rows.WrittenMachine.{frame, area_sealed, written_entries, written, write_reached}
 
@@ -176,5 +175,5 @@ resume_reached : AreMoves one_page no_operations resumed_past resumed []
 resume_reached = (mapped, [], None, map_reached, resume_move, refl)
 
 -- some machine was resumed from the area in its other frame
-pub resumed_reached : IsReached resumed_past
-resumed_reached = (resumed, record { valid = valid_a; moves = resume_reached })
+pub resumed_reached : IsReached resumed_past []
+resumed_reached = (resumed, record { valid = page_valid; moves = resume_reached })

@@ -7,7 +7,6 @@ use Rattle.ak_core.specs.declared.page.Frame.{Frame}
 use Rattle.ak_core.specs.declared.page.PageType.TheVariants.{Secs, Tcs, Reg, Va}
 use Rattle.ak_core.specs.declared.moves.Move.TheVariants.{Eblock, Etrack, Ewb}
 use Rattle.ak_core.specs.declared.moves.Answer.TheVariants.{Ok, OkHandle}
-use Rattle.ak_model.proofs.Rows.ValidLayouts.{valid_a}
 use Rattle.ak_epcm.specs.Entries.{entry_at}
 use Rattle.ak_relation.specs.State.MachineState.{SealedPage, State}
 use Rattle.ak_relation.specs.State.MachineView.{view_in}
@@ -20,7 +19,7 @@ use Rattle.ak_relation.specs.Relation.Example.{one_page, no_operations, blocked_
 use Rattle.ak_relation.proofs.Leaves.DoneMoves.{eblock_moves, etrack_moves}
 use Rattle.ak_relation.proofs.Leaves.WriteOutMoves.{ewb_moves}
 use Rattle.ak_relation.proofs.Rows.BlankPages.{one_slot, two_slots, two_slots_whole, second_slot, other_than_second}
-use Rattle.ak_relation.proofs.Rows.BuiltMachine.{in_use, built_entries, built_sealed}
+use Rattle.ak_relation.proofs.Rows.BuiltMachine.{page_valid, in_use, built_entries, built_sealed}
 use Rattle.ak_relation.proofs.Rows.EnteredMachine.{saved_frames, saved_whole, interrupted, interrupt_reached}
 
 abbrev pub frame : ℕ → Frame
@@ -137,5 +136,5 @@ pub write_reached : AreMoves one_page no_operations written_past written []
 write_reached = (cycled, [], None, cycle_reached, write_move, refl)
 
 -- some machine has written the area out
-pub written_reached : IsReached written_past
-written_reached = (written, record { valid = valid_a; moves = write_reached })
+pub written_reached : IsReached written_past []
+written_reached = (written, record { valid = page_valid; moves = write_reached })

@@ -1,12 +1,16 @@
 -- An example: an enclave of one page, and moments of it that some machine reaches.
 use Rattle.std.specs.Prelude.{ℕ, List, [], ◌∷◌, replicate}
 use Rattle.ak_core.specs.Layout.{Layout}
+use Rattle.ak_core.specs.declared.event.Event.{Event}
 use Rattle.ak_core.specs.declared.build.Build.TheVariants.{Sealed}
 use Rattle.ak_core.specs.declared.page.Perm.TheVariants.{Rw, Rx}
-use Rattle.ak_core.specs.declared.moves.Move.TheVariants.{SetPte, Eblock, Etrack, Ewb, Eldu, Eenter, Eresume, Interrupt}
+use Rattle.ak_core.specs.declared.moves.Move.TheVariants.{SetPte, Eblock, Etrack, Ewb, Eldu, Eenter, Eresume, Run, Interrupt}
+use Rattle.ak_core.specs.declared.moves.Answer.{Answer}
 use Rattle.ak_core.specs.declared.moves.Answer.TheVariants.{Ok, OkHandle}
+use Rattle.ak_core.specs.declared.moves.Exit.{Exit}
 use Rattle.ak_model.specs.Paging.Histories.{History}
-use Rattle.ak_model.specs.Paging.Pages.{flags_for}
+use Rattle.ak_model.specs.Paging.Pages.{flags_for, no_flags}
+use Rattle.ak_model.specs.Control.RuntimeTurn.{shown_fault}
 use Rattle.ak_relation.specs.State.MachineState.{State}
 use Rattle.ak_relation.specs.Relation.MoveByMove.{HasMoved}
 
@@ -53,6 +57,32 @@ mapped_past = (SetPte (record { 0 = 2 }) (record { 0 = 8 }) (flags_for Rw), Ok) 
 abbrev pub resumed_past : History
 resumed_past = (Eresume (record { 0 = 0 }), Ok) ∷ mapped_past
 
--- some machine went through these moves, with no event of the program
-abbrev pub IsReached : History → Type 0
-IsReached past = (state : State) × HasMoved one_page no_operations past state []
+-- or, after the build, the program's page is loaded and mapped
+abbrev pub fetched_past : History
+fetched_past = (Eldu (record { 0 = 8 }) (record { 0 = 0 }) (record { 0 = 0 }) (record { 0 = 1 }) 0, Ok) ∷ built_past
+
+abbrev pub shown_past : History
+shown_past = (SetPte (record { 0 = 0 }) (record { 0 = 8 }) (flags_for Rx), Ok) ∷ fetched_past
+
+-- the processor enters
+abbrev pub begun_past : History
+begun_past = (Eenter (record { 0 = 0 }) 7, Ok) ∷ shown_past
+
+-- and makes two turns: the runtime starts the program, which completes an instruction
+abbrev pub computed_past : History
+computed_past = (Run (record { 0 = 0 }) 2, Answer.Exit Exit.Still) ∷ begun_past
+
+-- or one, after which the page is not mapped any more
+abbrev pub started_past : History
+started_past = (Run (record { 0 = 0 }) 1, Answer.Exit Exit.Still) ∷ begun_past
+
+abbrev pub hidden_past : History
+hidden_past = (SetPte (record { 0 = 0 }) (record { 0 = 0 }) no_flags, Ok) ∷ started_past
+
+-- and the program misses it
+abbrev pub missed_past : History
+missed_past = (Run (record { 0 = 0 }) 1, Answer.Exit (shown_fault one_page)) ∷ hidden_past
+
+-- some machine went through these moves, with these events of the program
+abbrev pub IsReached : History → List Event → Type 0
+IsReached past events = (state : State) × HasMoved one_page no_operations past state events

@@ -1,13 +1,18 @@
 // Laws that the relation is reached: computed machines of an example.
-ghost use Rattle.ak_relation.specs.Relation.Example.{IsReached, built_past, entered_past, interrupted_past, resumed_past, written_past};
+ghost use Rattle.ak_core.specs.declared.event.Event.TheVariants.{Miss};
+ghost use Rattle.ak_relation.specs.Relation.Example.{IsReached, built_past, computed_past, entered_past, interrupted_past, missed_past, resumed_past, written_past};
+ghost use Rattle.std.specs.Prelude.{[], ◌∷◌};
 
 /// An enclave of one page. Some machine is that of its build; one has entered it; one was interrupted there, and has a saved frame; one has
-/// written out the area with that frame; and one has loaded it into another frame, and was resumed from there. So the relation holds of
-/// each, by the law on moves.
+/// written out the area with that frame; one has loaded it into another frame, and was resumed from there; and one has started the program,
+/// and completed an instruction of it, with its translation cached; and of one the program has missed its page, which is an event. So the
+/// relation holds of each, by the law on moves.
 pub fn example_moments_are_reached()
-    ensures built { IsReached built_past }
-    ensures entered { IsReached entered_past }
-    ensures interrupted { IsReached interrupted_past }
-    ensures written { IsReached written_past }
-    ensures resumed { IsReached resumed_past }
+    ensures built { IsReached built_past [] }
+    ensures entered { IsReached entered_past [] }
+    ensures interrupted { IsReached interrupted_past [] }
+    ensures written { IsReached written_past [] }
+    ensures resumed { IsReached resumed_past [] }
+    ensures computed { IsReached computed_past [] }
+    ensures missed { IsReached missed_past (Miss 0 0 ∷ []) }
 {}
