@@ -8,3 +8,5 @@ pub mod IdealMisses
 pub mod FewMisses
 pub mod SoundMissesFit
 pub mod Granted
+pub mod EqualAccesses
+pub mod KeptBySet

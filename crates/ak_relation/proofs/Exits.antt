@@ -7,7 +7,6 @@ pub mod Departing
 pub mod DepartedStands
 pub mod Departures
 pub mod VectorExits
-pub mod KeptBySet
 pub mod WalkedReached
 pub mod EventTurns
 pub mod ExitTurns

@@ -2,10 +2,10 @@
 
 pub mod built;
 pub mod bytes;
-pub mod definitions;
 pub mod entering;
 pub mod leaves;
 pub mod program;
 pub mod reached;
 pub mod runs;
 pub mod runtime;
+pub mod tracking;

@@ -11,9 +11,8 @@ use Rattle.ak_model.specs.Paging.Histories.{History}
 use Rattle.ak_model.specs.Paging.Holdings.{Held, FreeFrame, SecsFrame, VaFrame, PageFrame, is_va, is_free}
 use Rattle.ak_model.specs.Control.ControlState.{Control}
 use Rattle.ak_model.specs.Control.Answers.{answer}
-use Rattle.ak_model.specs.Control.LeafRows.{if_page}
+use Rattle.ak_model.specs.Control.LeafRows.{if_page, frame_row, page_row, has_slot, write_out_row, mac_row, load_row, remove_by_row, leaf_row, is_leaf}
 use Rattle.ak_model.specs.Paging.Views.{View, view_of}
-use Rattle.ak_model.specs.Control.LeafRows.{frame_row, page_row, has_slot, write_out_row, mac_row, load_row, remove_by_row, leaf_row, is_leaf}
 use Rattle.ak_model.specs.Laws.SameViews.{SameView}
 use Rattle.ak_model.proofs.Paging.SomeoneInside.{other}
 

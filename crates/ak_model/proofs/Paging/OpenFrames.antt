@@ -9,18 +9,19 @@ use Rattle.ak_core.specs.declared.moves.Move.{Move}
 use Rattle.ak_core.specs.declared.moves.Move.TheVariants.{SetPte, ReadPte, Eblock, Etrack, Ewb, Eldu, Eldb, Eremove, Epa, Discard, Eenter, Eresume, Run, Interrupt}
 use Rattle.ak_core.specs.declared.moves.Answer.{Answer}
 use Rattle.ak_core.specs.declared.moves.Answer.TheVariants.{Ok, OkHandle, InUse, NotBlocked, NotTracked}
-use Rattle.ak_model.specs.Paging.Histories.{History, Change, change, if_ok, if_handle}
+use Rattle.ak_model.specs.Paging.Histories.{History, Change, Exits, change, if_ok, if_handle}
 use Rattle.ak_model.specs.Paging.Holdings.{Held, FreeFrame, SecsFrame, VaFrame, PageFrame, is_free}
 use Rattle.ak_model.specs.Paging.Frames.{held, blocked_at}
 use Rattle.ak_model.specs.Paging.Inside.{since, inside, someone_inside}
 use Rattle.ak_model.specs.Paging.Tracking.{cycles, over_after, tracked}
 use Rattle.ak_model.specs.Control.ControlState.{Control}
 use Rattle.ak_model.specs.Laws.Presence.{IsPresent}
-use Rattle.ak_model.specs.Control.LeafRows.{if_page}
+use Rattle.ak_model.specs.Control.LeafRows.{if_page, write_out_row, remove_by_row, remove_row, leaf_row, is_leaf}
+use Rattle.ak_model.specs.Control.Answers.{answer}
+use Rattle.ak_model.proofs.Paging.ChangesByAnswer.{exit_holds}
 use Rattle.ak_model.proofs.Control.LeafRows.{frame_ok}
 use Rattle.ak_model.proofs.Paging.SomeoneInside.{other}
 use Rattle.ak_model.specs.Paging.Views.{view_of}
-use Rattle.ak_model.specs.Control.LeafRows.{write_out_row, remove_by_row, remove_row, leaf_row, is_leaf}
 use Rattle.ak_model.specs.Laws.OpenFrames.{IsLate, HoldsSince, takes, KeepsOpen}
 use Rattle.ak_model.proofs.Paging.WaitingFor.{not_tracked_since}
 
@@ -153,3 +154,14 @@ module _ (layout : Layout) (past : History) (known : IsKnown layout past) (lp pl
 pub keeps_open : (layout : Layout) (past : History) → IsKnown layout past → (m : Move) (a : Answer) → is_leaf m ≡ true →
     leaf_row (view_of layout past) m ≡ a → KeepsOpen layout past (change m a)
 keeps_open layout past known m a leaf row lp place f p is open_since = leaf_apart layout past known lp place f p is open_since m a leaf row
+
+-- nor does any move
+pub moves_keep_open : (layout : Layout) (past : History) (control : Control) → IsKnown layout past → (m : Move) → KeepsOpen layout past (change m (answer layout past control m))
+moves_keep_open layout past control known (SetPte q g flags) lp place f p is open_since = by_ok (answer layout past control (SetPte q g flags)) _ f (λ e. refl)
+moves_keep_open layout past control known (ReadPte q) lp place f p is open_since = refl
+moves_keep_open layout past control known (Eenter q v) lp place f p is open_since = by_ok (answer layout past control (Eenter q v)) _ f (λ e. refl)
+moves_keep_open layout past control known (Eresume q) lp place f p is open_since = by_ok (answer layout past control (Eresume q)) _ f (λ e. refl)
+moves_keep_open layout past control known (Interrupt q) lp place f p is open_since = by_ok (answer layout past control (Interrupt q)) _ f (λ e. refl)
+moves_keep_open layout past control known (Run q n) lp place f p is open_since =
+    exit_holds (λ c. takes c f ≡ false) refl (answer layout past control (Run q n)) (λ exit. Exits q.0 exit) (λ exit. refl)
+moves_keep_open layout past control known m lp place f p is open_since = keeps_open layout past known m (answer layout past control m) refl refl lp place f p is open_since

@@ -5,7 +5,7 @@ ghost use Rattle.ak_core.specs.declared.moves.Move.{Move};
 ghost use Rattle.ak_model.specs.Control.{trace, turn};
 ghost use Rattle.ak_model.specs.Flat.{flat_run, is_forbidden};
 ghost use Rattle.ak_model.specs.Laws.{AreEarlier, IsDistinct, MissesFit, QueueFits, misses_at};
-ghost use Rattle.ak_model.specs.Misses.{ComesTo, MayComplete, MayFault, accesses_at, accesses_of, completed_since, entered_at, granted_since};
+ghost use Rattle.ak_model.specs.Misses.{ComesTo, MayComplete, MayFault, accesses_at, accesses_of, completed_since, entered_at, granted_since, is_among, is_kept};
 ghost use Rattle.ak_model.specs.Paging.{access_walkable, inside, queue_at_build};
 ghost use Rattle.ak_model.specs.Sound.{AccessesAreReached, BreakIsForced, BrokenBy, EachTurn, EventsAreFlat, ReachedBy, Sound, queue_by, turns_of};
 ghost use Rattle.ak_model.specs.Tapes.{FlatRuns, ProgramTurn, last_moment, program_turns, runs_of};
@@ -100,4 +100,10 @@ pub fn accesses_granted()
         → entered_at turn ≡ entered_at other → granted_since layout runs turn older ≡ granted_since layout runs other older }
     ensures earlier { (layout : Layout.Layout) (tape : List Event) (moves : List Move)
         → AreEarlier (length (trace layout tape moves).past) (program_turns layout tape moves) }
+{}
+
+/// Which translations are kept depends on the set of the granted accesses alone.
+pub fn same_accesses_keep_the_same()
+    ensures { (granted other : List Access) → ((t : Access) → is_among granted t ≡ is_among other t)
+        → (t : Access) → is_kept granted t ≡ is_kept other t }
 {}

@@ -5,7 +5,7 @@ ghost use Rattle.ak_core.specs.declared.event.Event.{Event};
 ghost use Rattle.ak_core.specs.declared.moves.Answer.{Answer};
 ghost use Rattle.ak_core.specs.declared.moves.Move.{Move};
 ghost use Rattle.ak_core.specs.declared.page.Kind.{Kind};
-ghost use Rattle.ak_model.specs.Control.{Control, control_after, is_leaf, leaf_row, trace};
+ghost use Rattle.ak_model.specs.Control.{Control, answer, control_after, is_leaf, leaf_row, trace};
 ghost use Rattle.ak_model.specs.Kernels.{is_done, is_mapped};
 ghost use Rattle.ak_model.specs.Laws.{AllWait, Descend, IsEtrackAt, IsIncomplete, IsOwnAccess, IsPresent, IsTracked, KeepsOpen, concerns};
 ghost use Rattle.ak_model.specs.Misses.{reached_since};
@@ -120,9 +120,12 @@ pub fn page_stays()
         → (f : ℕ) × (held layout (trace layout tape moves).past f ≡ PageFrame t.page.0) }
 {}
 
-/// Where one processor at most is inside, no leaf takes a frame that has been open since the entering of a processor that is inside.
+/// No move of a trace takes a frame that has been open since the entering of a processor that is inside; and where one processor at
+/// most is inside, no leaf does, by its row.
 pub fn leaves_keep_open()
-    ensures { (layout : Layout.Layout) (past : History) (control : Control)
+    ensures always { (layout : Layout.Layout) (tape : List Event) (moves : List Move) (m : Move)
+        → KeepsOpen layout (trace layout tape moves).past (change m (answer layout (trace layout tape moves).past (trace layout tape moves).control m)) }
+    ensures leaf { (layout : Layout.Layout) (past : History) (control : Control)
         → IsPresent layout (record { past = past; control = control })
         → (m : Move) (a : Answer) → is_leaf m ≡ true → leaf_row (view_of layout past) m ≡ a → KeepsOpen layout past (change m a) }
 {}

@@ -26,9 +26,10 @@ use Rattle.ak_relation.specs.Program.Reaching.{is_filled, AreReached, granted_to
 use Rattle.ak_relation.specs.Premises.EnterRows.{walk_in}
 use Rattle.ak_relation.specs.Relation.Stands.{runs_at}
 use Rattle.ak_relation.specs.Premises.Faulting.{AreWalked, accesses_of, Traps, Faults}
-use Rattle.ak_relation.proofs.Program.Completing.{access_is, access_self, filled_reached}
+use Rattle.ak_model.proofs.Misses.EqualAccesses.{access_is, access_self}
+use Rattle.ak_relation.proofs.Program.Completing.{filled_reached}
 use Rattle.ak_relation.proofs.Entering.EnterAnswers.{walk_same}
-use Rattle.ak_relation.proofs.Exits.KeptBySet.{kept_same}
+use Rattle.ak_model.proofs.Misses.KeptBySet.{kept_same}
 use Rattle.ak_relation.proofs.Exits.Departing.{turn_with}
 use Rattle.ak_model.proofs.Misses.Granted.{granted-same}
 use Rattle.ak_model.proofs.Paging.SincePast.{since_past}

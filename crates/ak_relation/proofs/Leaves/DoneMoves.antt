@@ -12,10 +12,9 @@ use Rattle.ak_model.specs.Paging.Build.{known_pages}
 use Rattle.ak_model.specs.Paging.Histories.{History, Pair}
 use Rattle.ak_model.specs.Paging.Holdings.{Held, FreeFrame, SecsFrame, VaFrame, PageFrame}
 use Rattle.ak_model.specs.Paging.Frames.{held, blocked_at}
-use Rattle.ak_model.specs.Control.LeafRows.{if_page}
+use Rattle.ak_model.specs.Control.LeafRows.{if_page, leaf_row}
 use Rattle.ak_epcm.specs.Entries.{entry_at}
 use Rattle.ak_model.specs.Paging.Views.{view_of}
-use Rattle.ak_model.specs.Control.LeafRows.{leaf_row}
 use Rattle.ak_relation.specs.State.TrackSteps.{Cycled}
 use Rattle.ak_relation.specs.State.MachineState.{State}
 use Rattle.ak_relation.specs.State.MachineView.{view_in}

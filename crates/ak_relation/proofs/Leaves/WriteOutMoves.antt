@@ -14,11 +14,10 @@ use Rattle.ak_model.specs.Paging.Handles.{given, place, discarded}
 use Rattle.ak_model.specs.Paging.Inside.{since}
 use Rattle.ak_model.specs.Paging.PageTable.{pte}
 use Rattle.ak_model.specs.Paging.Tracking.{tracked}
-use Rattle.ak_model.specs.Control.LeafRows.{if_page}
+use Rattle.ak_model.specs.Control.LeafRows.{if_page, has_slot, leaf_row}
 use Rattle.ak_model.proofs.Paging.SomeoneInside.{other}
 use Rattle.ak_epcm.specs.Entries.{entry_at}
 use Rattle.ak_model.specs.Paging.Views.{view_of}
-use Rattle.ak_model.specs.Control.LeafRows.{has_slot, leaf_row}
 use Rattle.ak_relation.specs.State.MachineState.{State, copy}
 use Rattle.ak_relation.specs.State.Tables.{MappingStands, PresenceStands, TablesStand, SealedPageAgrees}
 use Rattle.ak_relation.specs.State.MachineView.{view_in}

@@ -23,6 +23,7 @@ use Rattle.ak_relation.specs.State.MachineState.{Fill}
 use Rattle.ak_relation.specs.Program.FlatPlaces.{Reaches}
 use Rattle.ak_relation.specs.Program.Turns.{IsGoing, TapeStands}
 use Rattle.ak_relation.specs.Program.Reaching.{is_filled, AreReached}
+use Rattle.ak_model.proofs.Misses.EqualAccesses.{access_is, access_self}
 
 -- ---- Plain facts
 
@@ -80,37 +81,6 @@ module _ (layout : Layout) (image returned : List ℕ) (count : ℕ) (flat after
       below_or i false e lt = h.completed i (grind (arith, nat_tests))
 
 -- ---- What was cached was reached
-
-kind_is : (a b : Kind) → same_kind a b ≡ true → a ≡ b
-kind_is Read Read h = refl
-kind_is Write Write h = refl
-kind_is Exec Exec h = refl
-kind_is Read Write h = absurd (cc)
-kind_is Read Exec h = absurd (cc)
-kind_is Write Read h = absurd (cc)
-kind_is Write Exec h = absurd (cc)
-kind_is Exec Read h = absurd (cc)
-kind_is Exec Write h = absurd (cc)
-
-both : (a b : Bool) → (a && b) ≡ true → (a ≡ true) × (b ≡ true)
-both true true h = (refl, refl)
-both true false h = absurd (cc)
-both false b h = absurd (cc)
-
--- equal accesses are equal
-pub access_is : (t u : Access) → same_access t u ≡ true → t ≡ u
-access_is t u h =
-    let parts = both (t.page.0 == u.page.0) (same_kind t.kind u.kind) h in
-    ap (λ (n : ℕ). access_to n t.kind) (eqb-true t.page.0 u.page.0 parts.0) ∙ ap (access_to u.page.0) (kind_is t.kind u.kind parts.1)
-
--- a access equals itself
-pub access_self : (t : Access) → same_access t t ≡ true
-access_self t = let n = t.page.0 in let e : (n == n) ≡ true = grind (arith, nat_tests) in rw e (kind_self t.kind)
-  where
-    kind_self : (k : Kind) → same_kind k k ≡ true
-    kind_self Read = refl
-    kind_self Write = refl
-    kind_self Exec = refl
 
 module _ (layout : Layout) (past : History) (place : ℕ) where
   -- a cached access was reached

@@ -14,7 +14,7 @@ use Rattle.ak_relation.specs.State.MachineState.{State}
 use Rattle.ak_relation.specs.State.MachineView.{view_in}
 use Rattle.ak_relation.specs.State.TableChanges.{with_mapping}
 use Rattle.ak_relation.specs.State.TrackSteps.{EntersBy}
-use Rattle.ak_relation.specs.State.View.{leaf_row}
+use Rattle.ak_model.specs.Control.LeafRows.{leaf_row}
 use Rattle.ak_relation.specs.Premises.EnterRows.{enter_row, saved_in}
 use Rattle.ak_relation.specs.Premises.Entering.{EntersAt}
 use Rattle.ak_relation.specs.Premises.Loading.{entry_of, LoadsFrom}

@@ -7,9 +7,8 @@ use Rattle.ak_model.specs.Paging.Inside.{since}
 use Rattle.ak_relation.specs.State.MachineState.{State}
 use Rattle.ak_relation.specs.Bytes.Pages.{Copies}
 use Rattle.ak_relation.specs.State.Tables.{TablesStand}
-use Rattle.ak_model.specs.Laws.OpenFrames.{HoldsSince}
+use Rattle.ak_model.specs.Laws.OpenFrames.{HoldsSince, KeepsOpen}
 use Rattle.ak_relation.specs.Relation.Stands.{copies_at}
-use Rattle.ak_model.specs.Laws.OpenFrames.{KeepsOpen}
 
 -- each page has the copy that it had, or none any more
 abbrev pub AreFewer : Copies → Copies → Type 0

@@ -12,7 +12,7 @@ use Rattle.ak_model.specs.Clusters.Queue.{is_in}
 use Rattle.ak_model.specs.Laws.Orderly.{IsDistinct}
 use Rattle.ak_model.specs.Misses.KeptTranslations.{same_access, is_among, unless_there, distinct, are_few_of, is_kept}
 use Rattle.ak_model.proofs.Misses.MissesInARow.{AreAmong, few_distinct}
-use Rattle.ak_relation.proofs.Program.Completing.{access_is, access_self}
+use Rattle.ak_model.proofs.Misses.EqualAccesses.{access_is, access_self}
 
 -- ---- Accesses as numbers
 

@@ -1,5 +1,5 @@
 use Rattle.ak_relation.proofs.Tracking.TrackedBy.{tracked-steps, incomplete-steps}
-use Rattle.ak_relation.proofs.laws.definitions.steps_track.Goals as goal
+use Rattle.ak_relation.proofs.laws.tracking.steps_track.Goals as goal
 
 pub returns : goal.returns
 returns c = record {
