@@ -1,5 +1,5 @@
 -- A load that blocks, as a move.
-use Rattle.std.proofs.Common.{◌≡◌, ℕ, ◌+◌, [], length, refl, sym, ◌∙◌, subst, inl}
+use Rattle.std.proofs.Common.{◌≡◌, ℕ, ◌+◌, length, refl, sym, ◌∙◌, subst, inl}
 use Rattle.std.specs.Prelude.{true, None, ◌==◌}
 use Rattle.ak_core.specs.Layout.{Layout}
 use Rattle.ak_core.specs.declared.page.Frame.{Frame}

@@ -1,5 +1,5 @@
 -- A load as a move, with a block or without.
-use Rattle.std.proofs.Common.{◌≡◌, ℕ, ◌+◌, [], length, refl, sym, ◌∙◌, subst, inl}
+use Rattle.std.proofs.Common.{◌≡◌, ℕ, ◌+◌, length, refl, sym, ◌∙◌, subst, inl}
 use Rattle.std.specs.Prelude.{false, not, nat_lt, None, ◌==◌}
 use Rattle.ak_core.specs.Layout.{Layout}
 use Rattle.ak_core.specs.declared.page.Frame.{Frame}

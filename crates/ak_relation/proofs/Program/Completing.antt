@@ -3,14 +3,12 @@ use Rattle.std.proofs.Common.{◌≡◌, ℕ, zero, suc, ◌+◌, ◌<◌, ◌�
 use Rattle.std.proofs.lemmas.Bool.{eqb-true}
 use Rattle.std.proofs.lemmas.Bool.Decides.{nat_tests}
 use Rattle.std.proofs.lemmas.List.Sums.{take_while-cons}
-use Rattle.std.specs.Prelude.{Bool, true, false, ◌&&◌, ◌||◌, not, cond, take_while, option_map, option_and_then, Some, None, ◌==◌}
+use Rattle.std.specs.Prelude.{Bool, true, false, ◌||◌, not, cond, take_while, option_map, option_and_then, Some, None, ◌==◌}
 use Rattle.std.specs.List.{list_all}
 use Rattle.ak_core.specs.Layout.{Layout}
-use Rattle.ak_core.specs.Mem.{Access, access_to}
+use Rattle.ak_core.specs.Mem.{Access}
 use Rattle.ak_core.specs.declared.event.Event.{Event}
 use Rattle.ak_core.specs.declared.event.Event.TheVariants.{Call, Miss, Trap, Break}
-use Rattle.ak_core.specs.declared.page.Kind.{Kind}
-use Rattle.ak_core.specs.declared.page.Kind.TheVariants.{Read, Write, Exec}
 use Rattle.ak_model.specs.Paging.Histories.{History}
 use Rattle.ak_model.specs.Flat.FlatRuns.{Flat, End, ending, is_forbidden, flat_run, after_ending, one_more}
 use Rattle.ak_model.specs.Tapes.LastMoment.{FlatRuns}
@@ -18,7 +16,7 @@ use Rattle.ak_model.specs.Sound.Events.{completed_by, ending_at, call_at}
 use Rattle.ak_model.specs.Control.ControlState.{Saved}
 use Rattle.ak_model.specs.Tapes.ProgramTurns.{ProgramTurn}
 use Rattle.ak_model.specs.Misses.Reached.{entered_at, reached_since, accesses_at, permitted_accesses, MayComplete}
-use Rattle.ak_model.specs.Misses.KeptTranslations.{same_kind, same_access, is_among}
+use Rattle.ak_model.specs.Misses.KeptTranslations.{same_access, is_among}
 use Rattle.ak_relation.specs.State.MachineState.{Fill}
 use Rattle.ak_relation.specs.Program.FlatPlaces.{Reaches}
 use Rattle.ak_relation.specs.Program.Turns.{IsGoing, TapeStands}

@@ -9,7 +9,7 @@ use Rattle.ak_model.specs.Paging.Histories.{History, Pair, first, Change, Unchan
 use Rattle.ak_model.specs.Paging.Pages.{tcs_page, ssa_page}
 use Rattle.ak_model.specs.Paging.Holdings.{Held, FreeFrame, VaFrame, PageFrame}
 use Rattle.ak_model.specs.Paging.Frames.{held, held_after, blocked_at, blocked_after, blocks_first}
-use Rattle.ak_model.specs.Paging.Inside.{since, since_after}
+use Rattle.ak_model.specs.Paging.Inside.{since}
 use Rattle.ak_model.specs.Paging.Walk.{access_walkable, tcs_walkable, walkable}
 use Rattle.ak_core.specs.declared.page.Kind.TheVariants.{Write}
 use Rattle.ak_model.specs.Control.ControlState.{Control}

@@ -1,11 +1,10 @@
 -- How far the places of cycles, blocks and stamps go.
-use Rattle.std.proofs.Common.{◌≡◌, ℕ, zero, suc, ◌+◌, ◌-◌, ◌≤◌, List, [], ◌∷◌, length, map, refl, ap, ◌∙◌, arith}
+use Rattle.std.proofs.Common.{◌≡◌, ℕ, zero, suc, ◌+◌, ◌≤◌, List, [], ◌∷◌, length, map, refl, ap, ◌∙◌, arith}
 use Rattle.std.specs.Prelude.{Bool, true, false, not, filter, cond, replicate, Option, Some, None, ◌==◌, if◌then◌else◌}
 use Rattle.ak_model.specs.Paging.Histories.{History, Change, Unchanged, Maps, Blocks, Cycles, WritesOut, Loads, Removes, MakesVa, Discards, Enters, Resumes, Exits, Interrupts, change_of}
 use Rattle.ak_model.specs.Paging.Frames.{blocked_at, blocked_after}
 use Rattle.ak_model.specs.Paging.Tracking.{Cycle, without}
 use Rattle.ak_relation.specs.State.TrackSteps.{TrackStep, Cycled, steps_after, steps_of, stamp_of, inside_by}
-use Rattle.ak_model.specs.Laws.Waiting.{Descend}
 
 -- ---- Bounds
 

@@ -1,13 +1,13 @@
 -- What a leaf of the kernel has to keep, so that the relation holds after it: the tables, said anew, and of the bytes that no page
 -- gets others than it had.
-use Rattle.std.specs.Prelude.{◌≡◌, ◌⊎◌, ℕ, Bool, false, ◌∷◌, None, Some, ◌==◌}
+use Rattle.std.specs.Prelude.{◌≡◌, ◌⊎◌, ℕ, ◌∷◌, None}
 use Rattle.ak_core.specs.Layout.{Layout}
-use Rattle.ak_model.specs.Paging.Histories.{History, Pair, Change, WritesOut, Loads, Removes, MakesVa, change_of}
+use Rattle.ak_model.specs.Paging.Histories.{History, Pair, change_of}
 use Rattle.ak_model.specs.Paging.Inside.{since}
 use Rattle.ak_relation.specs.State.MachineState.{State}
 use Rattle.ak_relation.specs.Bytes.Pages.{Copies}
 use Rattle.ak_relation.specs.State.Tables.{TablesStand}
-use Rattle.ak_model.specs.Laws.OpenFrames.{HoldsSince, KeepsOpen}
+use Rattle.ak_model.specs.Laws.OpenFrames.{KeepsOpen}
 use Rattle.ak_relation.specs.Relation.Stands.{copies_at}
 
 -- each page has the copy that it had, or none any more

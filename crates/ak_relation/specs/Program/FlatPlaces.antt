@@ -1,8 +1,8 @@
 -- Where the program's flat run is, by the control state: at its next instruction, or after a call whose answer is missing.
-use Rattle.std.specs.Prelude.{◌≡◌, ◌⊎◌, ℕ, suc, List, [], ◌∷◌, Option, Some}
+use Rattle.std.specs.Prelude.{◌≡◌, ◌⊎◌, ℕ, suc, List, [], Some}
 use Rattle.ak_core.specs.Layout.{Layout}
 use Rattle.ak_model.specs.Flat.FlatRuns.{Flat, End, ending, flat_run}
-use Rattle.ak_model.specs.Control.ControlState.{Phase, Running, Calling, Ended, Dead, Context, Leave, Saved, Control}
+use Rattle.ak_model.specs.Control.ControlState.{Control}
 use Rattle.ak_model.specs.Laws.OwedAnswers.{Owing, Settled, Owed, Unknown, owing}
 
 -- the flat run came to this state, and has used all values

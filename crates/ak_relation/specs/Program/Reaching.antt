@@ -1,5 +1,5 @@
 -- The part of the relation on what was reached: what each processor inside has cached and holds, and which access a break names.
-use Rattle.std.specs.Prelude.{◌≡◌, ℕ, ◌<◌, Bool, true, List, [], ◌∷◌, ◌++◌, length, Option, Some, None}
+use Rattle.std.specs.Prelude.{◌≡◌, ℕ, Bool, true, List, [], ◌∷◌, ◌++◌, length, Option, Some, None}
 use Rattle.std.specs.List.{list_any}
 use Rattle.ak_core.specs.Layout.{Layout}
 use Rattle.ak_core.specs.Mem.{Access}
@@ -7,8 +7,6 @@ use Rattle.ak_core.specs.declared.event.Event.TheVariants.{Break}
 use Rattle.ak_core.specs.declared.page.Kind.TheVariants.{Write}
 use Rattle.ak_model.specs.Paging.Pages.{tcs_page, ssa_page, cluster_at}
 use Rattle.ak_model.specs.Paging.Histories.{History, first}
-use Rattle.ak_model.specs.Paging.Holdings.{PageFrame}
-use Rattle.ak_model.specs.Paging.Frames.{held, blocked_at}
 use Rattle.ak_model.specs.Paging.Inside.{since}
 use Rattle.ak_model.specs.Paging.Walk.{walkable, tcs_walkable}
 use Rattle.ak_model.specs.Clusters.Queue.{is_in}

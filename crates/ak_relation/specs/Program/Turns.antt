@@ -5,7 +5,7 @@ use Rattle.ak_core.specs.Layout.{Layout}
 use Rattle.ak_core.specs.declared.event.Event.{Event}
 use Rattle.ak_model.specs.Paging.Build.{queue_at_build}
 use Rattle.ak_model.specs.Paging.Histories.{History}
-use Rattle.ak_model.specs.Paging.Inside.{inside, someone_inside}
+use Rattle.ak_model.specs.Paging.Inside.{someone_inside}
 use Rattle.ak_core.specs.declared.event.Event.TheVariants.{Call, Miss, Trap, Break}
 use Rattle.ak_model.specs.Control.ControlState.{Phase, New, Context, Leave, Reason, Raised, Denied, Broke, Saved, Control}
 use Rattle.ak_model.specs.Tapes.Tape.{is_tape}

@@ -1,6 +1,6 @@
 -- The steps that tracking looks at: enterings, leavings and cycles. A frame that is blocked is stamped with how many there were.
 -- (SDM volume 3D, ETRACK.)
-use Rattle.std.specs.Prelude.{ℕ, ◌+◌, ◌-◌, ◌≤◌, Bool, true, false, not, List, [], ◌∷◌, length, map, filter, Option, None, ◌==◌, if◌then◌else◌}
+use Rattle.std.specs.Prelude.{ℕ, ◌+◌, Bool, true, false, not, List, [], ◌∷◌, length, map, filter, Option, None, ◌==◌, if◌then◌else◌}
 use Rattle.ak_core.specs.Layout.{Layout}
 use Rattle.ak_model.specs.Paging.Histories.{History, Change, change_of, Cycles, Enters, Resumes, Exits, Interrupts}
 use Rattle.ak_model.specs.Paging.Frames.{blocked_after}
