@@ -48,6 +48,10 @@ abbrev pub le_value : List ℕ → ℕ
 le_value [] = 0
 le_value (b ∷ bytes) = b + 256 * le_value bytes
 
+-- the number in so many bytes at a place
+abbrev pub number_at : List ℕ → ℕ → ℕ → ℕ
+number_at bytes place count = le_value (take count (drop place bytes))
+
 -- ---- Registers and flags
 
 -- the value of a register

@@ -16,11 +16,11 @@ use Rattle.ak_model.specs.Control.RuntimeTurn.{shown_fault}
 use Rattle.ak_model.specs.Flat.Instructions.{Plan, RaisesVector, Computes, Reads, Writes, CallsOut, plan}
 use Rattle.ak_model.specs.Flat.Encodings.{decode}
 use Rattle.ak_model.specs.Flat.FlatRuns.{Flat, Line, carry_out, is_program, rest_of_page, in_first_page, line}
-use Rattle.ak_relation.specs.Bytes.SavedFrames.{ByPage, SavedFrame, frame_bytes}
 use Rattle.ak_relation.specs.Program.Seeing.{Sees}
 use Rattle.ak_relation.specs.State.MachineState.{State}
 use Rattle.ak_relation.specs.State.TableChanges.{with_mapping}
-use Rattle.ak_relation.specs.State.TrackSteps.{EntersBy, LeavesBy}
+use Rattle.ak_ssa.specs.SavedFrames.{ByPage, SavedFrame, frame_bytes}
+use Rattle.ak_track.specs.Steps.{EntersBy, LeavesBy}
 use Rattle.ak_relation.specs.Premises.Faulting.{Faults}
 use Rattle.ak_relation.specs.Premises.Saving.{Saves}
 use Rattle.ak_relation.specs.Relation.Does.{IsTurn, IsMove}

@@ -13,9 +13,9 @@ use Rattle.ak_model.specs.Paging.Frames.{held}
 use Rattle.ak_model.specs.Flat.Instructions.{reg_of, rax}
 use Rattle.ak_model.specs.Flat.FlatRuns.{Flat, zeroed}
 use Rattle.ak_model.specs.Control.ControlState.{Phase, New, Running, Calling, Asked, Ended, Trapped, Dead, Context, Program, Enter, Probe, Finish, Guard, Leave, Control}
-use Rattle.ak_relation.specs.Bytes.SavedFrames.{SavedFrame}
 use Rattle.ak_relation.specs.Bytes.Pages.{phase_number, IsState}
 use Rattle.ak_relation.specs.State.MachineState.{Processor, State}
+use Rattle.ak_ssa.specs.SavedFrames.{SavedFrame}
 use Rattle.ak_relation.specs.State.Tables.{TablesStand}
 use Rattle.ak_relation.specs.Premises.Rows.{kept_bytes, entry_row}
 use Rattle.ak_relation.specs.Premises.StepsTo.{Went, HasState, Performs, reads_of, MayStep, StepsTo, memory_of}

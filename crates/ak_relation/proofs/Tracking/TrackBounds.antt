@@ -4,7 +4,8 @@ use Rattle.std.specs.Prelude.{Bool, true, false, not, filter, cond, replicate, O
 use Rattle.ak_model.specs.Paging.Histories.{History, Change, Unchanged, Maps, Blocks, Cycles, WritesOut, Loads, Removes, MakesVa, Discards, Enters, Resumes, Exits, Interrupts, change_of}
 use Rattle.ak_model.specs.Paging.Frames.{blocked_at, blocked_after}
 use Rattle.ak_model.specs.Paging.Tracking.{Cycle, without}
-use Rattle.ak_relation.specs.State.TrackSteps.{TrackStep, Cycled, steps_after, steps_of, stamp_of, inside_by}
+use Rattle.ak_track.specs.Steps.{TrackStep, Cycled, inside_by}
+use Rattle.ak_relation.specs.State.TrackSteps.{steps_after, steps_of, stamp_of}
 
 -- ---- Bounds
 

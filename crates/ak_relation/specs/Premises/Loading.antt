@@ -2,8 +2,9 @@
 use Rattle.std.specs.Prelude.{◌≡◌, ℕ, ◌*◌, ◌<◌, Bool, true, false, length, Some, ◌==◌, if◌then◌else◌}
 use Rattle.ak_core.specs.declared.page.Entry.{Entry}
 use Rattle.ak_epcm.specs.Entries.{entry_at}
-use Rattle.ak_relation.specs.Bytes.SavedFrames.{number_at}
-use Rattle.ak_relation.specs.State.MachineState.{SealedPage, State}
+use Rattle.ak_model.specs.Flat.Instructions.{number_at}
+use Rattle.ak_sealed.specs.SealedPages.{SealedPage}
+use Rattle.ak_relation.specs.State.MachineState.{State}
 
 -- the entry of a frame that holds the page of a sealed page
 abbrev pub entry_of : SealedPage → Bool → Entry

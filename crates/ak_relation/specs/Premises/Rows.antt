@@ -13,7 +13,7 @@ use Rattle.ak_model.specs.Clusters.Queue.{drops}
 use Rattle.ak_model.specs.Flat.Instructions.{reg_of, with_reg, rax, rcx, rdi, rsi}
 use Rattle.ak_model.specs.Flat.FlatRuns.{zeroed}
 use Rattle.ak_model.specs.Control.ControlState.{Phase, New, Running, Calling, Asked, Ended, Trapped, Dead, Context, Program, Enter, Probe, Finish, Guard, Leave, Reason, Denied, Missed, Broke}
-use Rattle.ak_relation.specs.Bytes.SavedFrames.{SavedCause, NoCause, ByVector, ByPage, SavedFrame, frame_bytes, area_place, state_place}
+use Rattle.ak_ssa.specs.SavedFrames.{SavedCause, NoCause, ByVector, ByPage, SavedFrame, frame_bytes, area_place, state_place}
 use Rattle.ak_relation.specs.Bytes.Contexts.{step_address, reason_for}
 
 -- ---- What a row says

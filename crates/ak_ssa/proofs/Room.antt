@@ -4,7 +4,7 @@ use Rattle.std.proofs.lemmas.Bool.{leb-true}
 use Rattle.std.proofs.Math.Nat.{pow-suc, mul_assoc}
 use Rattle.std.specs.Prelude.{Bool, true, false, if◌then◌else◌, nat_le}
 use Rattle.ak_core.specs.Layout.{Layout, IsValid, doubled_to, enclave_size}
-use Rattle.ak_relation.specs.Bytes.FramesFit.{HasRoom}
+use Rattle.ak_ssa.specs.FramesFit.{HasRoom}
 
 -- the doubled size is large enough, where so many doublings are
 large : (n size least : ℕ) → least ≤ 2 ^ n * size → least ≤ doubled_to n size least

@@ -3,8 +3,8 @@
 use Rattle.std.specs.Prelude.{◌+◌, ◌*◌, ◌^◌, ◌<◌}
 use Rattle.ak_core.specs.Layout.{Layout}
 use Rattle.ak_model.specs.Paging.Pages.{all_pages}
-use Rattle.ak_relation.specs.Bytes.SavedFrames.{SavedCause, NoCause, ByVector, ByPage, SavedFrame}
-use Rattle.ak_relation.specs.Bytes.SavedRegisters.{AreRegs}
+use Rattle.ak_ssa.specs.SavedFrames.{SavedCause, NoCause, ByVector, ByPage, SavedFrame}
+use Rattle.ak_ssa.specs.SavedRegisters.{AreRegs}
 
 -- a vector of 8 bits, or a page of the enclave
 abbrev pub CauseFits : Layout → SavedCause → Type 0

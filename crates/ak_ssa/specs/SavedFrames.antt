@@ -1,4 +1,4 @@
--- Numbers in bytes, and the saved frame of a processor. (SDM volume 3D, "State Save Area", "EXITINFO", "EXINFO".)
+-- The saved frame of a processor. (SDM volume 3D, "State Save Area", "EXITINFO", "EXINFO".)
 use Rattle.std.specs.Prelude.{◌≡◌, ℕ, ◌+◌, ◌*◌, ◌^◌, Bool, List, ◌∷◌, ◌++◌, take, drop, flat_map, replicate, if◌then◌else◌}
 use Rattle.ak_core.specs.Layout.{Layout}
 use Rattle.ak_core.specs.Mem.{Access}
@@ -6,11 +6,7 @@ use Rattle.ak_core.specs.declared.page.Kind.{Kind}
 use Rattle.ak_core.specs.declared.page.Kind.TheVariants.{Read, Write, Exec}
 use Rattle.ak_core.specs.declared.registers.Mode.{Mode}
 use Rattle.ak_core.specs.declared.registers.Regs.{Regs}
-use Rattle.ak_model.specs.Flat.Instructions.{le_bytes, le_value}
-
--- the number in so many bytes at a place
-abbrev pub number_at : List ℕ → ℕ → ℕ → ℕ
-number_at bytes place count = le_value (take count (drop place bytes))
+use Rattle.ak_model.specs.Flat.Instructions.{le_bytes}
 
 -- what was noted of the exit: nothing, a vector, or a page fault
 pub data SavedCause : Type 0 where

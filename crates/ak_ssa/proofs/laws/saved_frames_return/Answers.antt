@@ -1,6 +1,6 @@
-use Rattle.ak_relation.proofs.Bytes.FramesReturn.{stored_back, same_frame}
-use Rattle.ak_relation.proofs.Flat.Room.{room as has_room}
-use Rattle.ak_relation.proofs.laws.bytes.saved_frames_return.Goals as goal
+use Rattle.ak_ssa.proofs.FramesReturn.{stored_back, same_frame}
+use Rattle.ak_ssa.proofs.Room.{room as has_room}
+use Rattle.ak_ssa.proofs.laws.saved_frames_return.Goals as goal
 
 pub returns : goal.returns
 returns c = record {

@@ -7,12 +7,12 @@ use Rattle.ak_core.specs.Layout.{Layout}
 use Rattle.ak_core.specs.Mem.{access_to}
 use Rattle.ak_core.specs.declared.page.Kind.{Kind}
 use Rattle.ak_core.specs.declared.page.Kind.TheVariants.{Read, Write, Exec}
-use Rattle.ak_model.specs.Flat.Instructions.{le_bytes, le_value}
-use Rattle.ak_relation.specs.Bytes.SavedFrames.{SavedCause, NoCause, ByVector, ByPage, SavedFrame, exit_info, fault_address, code_of, fault_code, frame_bytes, HasFrame, number_at}
-use Rattle.ak_relation.specs.Bytes.SavedRegisters.{after_words}
-use Rattle.ak_relation.specs.Bytes.ReadFrames.{kind_in, cause_by, info_in, frame_in}
-use Rattle.ak_relation.specs.Bytes.FramesFit.{CauseFits, FrameFits, HasRoom}
-use Rattle.ak_relation.proofs.Entering.LoadedRegisters.{value_back, past_words, tail_of, parts, regs_back}
+use Rattle.ak_model.specs.Flat.Instructions.{le_bytes, le_value, number_at}
+use Rattle.ak_ssa.specs.SavedFrames.{SavedCause, NoCause, ByVector, ByPage, SavedFrame, exit_info, fault_address, code_of, fault_code, frame_bytes, HasFrame}
+use Rattle.ak_ssa.specs.SavedRegisters.{after_words}
+use Rattle.ak_ssa.specs.ReadFrames.{kind_in, cause_by, info_in, frame_in}
+use Rattle.ak_ssa.specs.FramesFit.{CauseFits, FrameFits, HasRoom}
+use Rattle.ak_ssa.proofs.RegistersReturn.{value_back, past_words, tail_of, parts, regs_back}
 
 -- ---- The numbers of a cause
 

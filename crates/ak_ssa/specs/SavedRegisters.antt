@@ -3,7 +3,7 @@ use Rattle.std.specs.Prelude.{◌≡◌, ℕ, zero, suc, ◌^◌, ◌/◌, ◌%�
 use Rattle.ak_core.specs.declared.registers.Mode.{Mode}
 use Rattle.ak_core.specs.declared.registers.Regs.{Regs}
 use Rattle.ak_model.specs.Flat.Instructions.{le_value}
-use Rattle.ak_relation.specs.Bytes.SavedFrames.{area_place}
+use Rattle.ak_ssa.specs.SavedFrames.{area_place}
 
 -- numbers of 64 bits
 abbrev pub AreWords : List ℕ → Type 0

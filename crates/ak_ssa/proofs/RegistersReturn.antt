@@ -5,8 +5,8 @@ use Rattle.std.specs.Prelude.{Bool, true, false, ◌^◌, ◌/◌, ◌%◌, take
 use Rattle.ak_core.specs.Layout.{Layout}
 use Rattle.ak_core.specs.declared.registers.Mode.{Mode}
 use Rattle.ak_model.specs.Flat.Instructions.{le_bytes, le_value}
-use Rattle.ak_relation.specs.Bytes.SavedFrames.{SavedFrame, exit_info, bit_if, flags_number, mode_number, frame_bytes, area_place, HasFrame}
-use Rattle.ak_relation.specs.Bytes.SavedRegisters.{AreWords, AreRegs, words_in, after_words, flag_in, mode_in, regs_by, regs_in, area_regs}
+use Rattle.ak_ssa.specs.SavedFrames.{SavedFrame, exit_info, bit_if, flags_number, mode_number, frame_bytes, area_place, HasFrame}
+use Rattle.ak_ssa.specs.SavedRegisters.{AreWords, AreRegs, words_in, after_words, flag_in, mode_in, regs_by, regs_in, area_regs}
 
 -- a number that fits so many bytes comes back from them
 pub value_back : (n x : ℕ) → x < 256 ^ n → le_value (le_bytes n x) ≡ x

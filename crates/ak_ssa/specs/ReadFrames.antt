@@ -5,9 +5,9 @@ use Rattle.ak_core.specs.Layout.{Layout}
 use Rattle.ak_core.specs.Mem.{access_to}
 use Rattle.ak_core.specs.declared.page.Kind.{Kind}
 use Rattle.ak_core.specs.declared.page.Kind.TheVariants.{Read, Write, Exec}
-use Rattle.ak_model.specs.Flat.Instructions.{le_value}
-use Rattle.ak_relation.specs.Bytes.SavedFrames.{SavedCause, NoCause, ByVector, ByPage, SavedFrame, number_at}
-use Rattle.ak_relation.specs.Bytes.SavedRegisters.{after_words, regs_in}
+use Rattle.ak_model.specs.Flat.Instructions.{le_value, number_at}
+use Rattle.ak_ssa.specs.SavedFrames.{SavedCause, NoCause, ByVector, ByPage, SavedFrame}
+use Rattle.ak_ssa.specs.SavedRegisters.{after_words, regs_in}
 
 -- the kind of an error code
 abbrev pub kind_in : ℕ → Kind

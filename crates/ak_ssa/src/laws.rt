@@ -1,8 +1,9 @@
 // Laws on the bytes of saved frames.
 ghost use Rattle.ak_core.specs.Layout.{IsValid};
-ghost use Rattle.ak_relation.specs.Bytes.FramesFit.{FrameFits, HasRoom};
-ghost use Rattle.ak_relation.specs.Bytes.ReadFrames.{frame_in};
-ghost use Rattle.ak_relation.specs.Bytes.SavedFrames.{HasFrame, SavedFrame};
+ghost use Rattle.ak_ssa.specs.FramesFit.{FrameFits, HasRoom};
+ghost use Rattle.ak_ssa.specs.ReadFrames.{frame_in};
+ghost use Rattle.ak_ssa.specs.SavedFrames.{HasFrame, SavedFrame, area_place};
+ghost use Rattle.ak_ssa.specs.SavedRegisters.{AreRegs, area_regs};
 ghost use Rattle.std.specs.Prelude.{List, drop, take, ℕ, ◌≡◌};
 ghost use Rattle.ak_core.specs.Layout;
 
@@ -14,4 +15,10 @@ pub fn saved_frames_return()
     ensures one { (layout : Layout.Layout) (place : ℕ) (bytes : List ℕ) (frame other : SavedFrame) → HasRoom layout
         → FrameFits layout frame → FrameFits layout other → HasFrame layout place bytes frame → HasFrame layout place bytes other → frame ≡ other }
     ensures room { (layout : Layout.Layout) → IsValid layout → HasRoom layout }
+{}
+
+/// The registers that are read back from an area's bytes are those of the frame that was saved there, where they are of 64 bits.
+pub fn saved_registers_return()
+    ensures { (layout : Layout.Layout) (bytes : List ℕ) (frame : SavedFrame) → AreRegs frame.regs → HasFrame layout area_place bytes frame
+        → area_regs bytes ≡ frame.regs }
 {}

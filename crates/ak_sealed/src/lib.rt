@@ -1,0 +1,2 @@
+//! Pages that left the enclave, sealed, and the versions in the slots of version arrays (SDM volume 3D, EWB).
+#![tactic(auto)]

@@ -1,0 +1,3 @@
+pub mod RegistersReturn
+pub mod FramesReturn
+pub mod Room

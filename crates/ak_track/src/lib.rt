@@ -1,0 +1,2 @@
+//! The steps of tracking: which processors entered and left, and which cycles began (SDM volume 3D, ETRACK).
+#![tactic(auto)]
