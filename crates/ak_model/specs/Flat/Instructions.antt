@@ -1,6 +1,6 @@
 -- What each instruction does to registers and flags, and what it asks of memory. (SDM volume 2, the page of each
 -- instruction; where it leaves a flag undefined, this project says which value it has.)
-use Rattle.std.specs.Prelude.{ℕ, zero, suc, ◌+◌, ◌-◌, ◌*◌, ◌/◌, ◌%◌, ◌^◌, ◌<◌, Bool, false, ◌&&◌, ◌||◌, not, List, [], ◌∷◌, nat_lt, nat_le, ◌==◌, ℤ, pos, negsuc, slice_index, slice_set, bit_and, bit_or, bit_xor, if◌then◌else◌}
+use Rattle.std.specs.Prelude.{ℕ, zero, suc, ◌+◌, ◌-◌, ◌*◌, ◌/◌, ◌%◌, ◌^◌, ◌<◌, Bool, false, ◌&&◌, ◌||◌, not, List, [], ◌∷◌, take, drop, nat_lt, nat_le, ◌==◌, ℤ, pos, negsuc, slice_index, slice_set, bit_and, bit_or, bit_xor, if◌then◌else◌}
 use Rattle.std.specs.Bool.{beq}
 use Rattle.ak_core.specs.declared.registers.Regs.{Regs}
 use Rattle.ak_core.specs.declared.instruction.Cond.{Cond}
