@@ -1,9 +1,9 @@
 use Rattle.std.proofs.Common.{◌<◌, [], length, ap, ◌∙◌, arith}
 use Rattle.std.proofs.lemmas.List.{get_or_default}
 use Rattle.ak_core.specs.Mem.{with_page, put_at}
-use Rattle.ak_exec.specs.FourPages.{blank_page, page_of}
-use Rattle.ak_exec.proofs.InFour.{touched_inside, writable_touched, page_of-set}
-use Rattle.ak_exec.proofs.tests.FourPagesMem.store_slice.Goals as goal
+use Rattle.ak_exec_tests.specs.FourPages.{blank_page, page_of}
+use Rattle.ak_exec_tests.proofs.InFour.{touched_inside, writable_touched, page_of-set}
+use Rattle.ak_exec_tests.proofs.four_pages.FourPagesMem.store_slice.Goals as goal
 
 pub bounds-self-p : goal.bounds-self-p
 bounds-self-p c = touched_inside c.args.self.now.granted.items c.args.p.0 c.args.self.now.inside (writable_touched c.args.self.now.granted.items c.args.p.0 c.requires.touched)

@@ -5,7 +5,7 @@ use Rattle.std.specs.Prelude.{Bool, true, false, ◌&&◌, ◌||◌, ◌==◌, n
 use Rattle.std.proofs.lemmas.Bool.Decides.{nat_tests}
 use Rattle.std.proofs.lemmas.List.{get_or-set_same, get_or-set_other}
 use Rattle.ak_core.specs.Mem.{Access, is_touched, is_writable, is_write, with_page}
-use Rattle.ak_exec.specs.FourPages.{are_inside, page_of, blank_page}
+use Rattle.ak_exec_tests.specs.FourPages.{are_inside, page_of, blank_page}
 
 both : (a b : Bool) → a && b ≡ true → (a ≡ true) × (b ≡ true)
 both true b h = (refl, h)

@@ -7,8 +7,8 @@
 //     > autarky 1            what `out` took, up to the mark of the next line
 //     ! write failed         what `err` took, up to that of the next
 //     = 6                    the status
-use crate::autarky;
 use ak_outside::{MemFiles, MemSink};
+use ak_top::autarky;
 use std::alloc::Global;
 use std::test::Fail;
 
