@@ -1,7 +1,5 @@
-// The report of a journal, with each move, answer and event. Most of them no run has yet.
-use ak_core::{
-    Answer, Event, Exit, Flags, Frame, Handle, Journal, Lp, Move, OutOfMemory, Page,
-};
+// Reports of journals with each move, answer and event, also those that no run gives yet.
+use ak_core::{Answer, Event, Exit, Flags, Frame, Handle, Journal, Lp, Move, OutOfMemory, Page};
 use ak_top::report_text;
 use std::alloc::{AllocError, Global};
 use std::test::Fail;
