@@ -77,7 +77,7 @@ pub fn why(frame: &[u8]) -> Why
     if info == 0 {
         Why::Interrupt
     } else if code == 0 {
-        Why::Vector(info.to_le_bytes()[0])
+        Why::Vector((info % 256) as u8)
     } else {
         Why::PageFault(LittleEndian::read_u64(frame), kind_of(code))
     }
