@@ -1,0 +1,5 @@
+use Rattle.std.proofs.Common.{◌≡◌, ap, ◌∙◌, arith}
+use Rattle.ak_ssa.proofs.frame.tail.Goals as goal
+
+pub returns : goal.returns
+returns c = ?
