@@ -3,3 +3,4 @@ pub mod FramesReturn
 pub mod Room
 pub mod Words
 pub mod Parts
+pub mod Reading

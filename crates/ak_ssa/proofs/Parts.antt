@@ -1,8 +1,9 @@
 -- Parts of a frame and of a page that are put into their places.
 use Rattle.std.proofs.Common.{◌≡◌, ℕ, zero, suc, ◌+◌, ◌-◌, ◌*◌, ◌≤◌, List, [], ◌∷◌, ◌++◌, length, take, drop, replicate, refl, ap, sym, ◌∙◌, arith, length-append, length-drop}
 use Rattle.std.proofs.lemmas.List.{drop_all, take_all, take_at, drop_at, drop-drop, append-nil, append_assoc, length-take-le}
-use Rattle.std.specs.Prelude.{flat_map}
+use Rattle.std.specs.Prelude.{flat_map, slice_set}
 use borrow.Rule.Slice.PartMut.{put_mid}
+use Rattle.byteorder.specs.Endian.{little_bytes}
 use Rattle.ak_core.specs.declared.registers.Regs.{Regs}
 use Rattle.ak_model.specs.Flat.Instructions.{le_bytes}
 use Rattle.ak_ssa.specs.declared.cause.Why.{Why}
@@ -11,6 +12,7 @@ use Rattle.ak_ssa.specs.SavedFrames.{tail_bytes, saved_bytes}
 use Rattle.ak_ssa.specs.ReadFrames.{cleared}
 use Rattle.ak_ssa.proofs.RegistersReturn.{parts}
 use Rattle.ak_ssa.proofs.FramesReturn.{length-words}
+use Rattle.ak_ssa.proofs.Words.{bytes-8, bytes-4}
 
 -- bytes put at the end
 pub put_at_end : (n : ℕ) (xs ys : List ℕ) → put_mid n (length xs - n) xs ys ≡ take n xs ++ ys
@@ -25,6 +27,33 @@ three h g t old sixteen many =
     let m = put_mid 16 128 (h ++ drop 16 old) g in
     let begins : m ≡ (h ++ g) ++ r = ap (λ l. l ++ (g ++ r)) (take_at h (drop 16 old) 16 sixteen) ∙ sym (append_assoc h g r) in
     put_at_end 144 m t ∙ ap (λ l. take 144 l ++ t) begins ∙ ap (λ l. l ++ t) (take_at (h ++ g) r 144 (omega (arith, length-append h g, sixteen, many))) ∙ append_assoc h g t
+
+-- as many as the middle has
+pub mid_size : (h old : List ℕ) → length h ≡ 16 → length old ≡ 200 → length (take 128 (drop 16 (h ++ drop 16 old))) ≡ 128
+mid_size h old sixteen size =
+    length-take-le 128 (drop 16 (h ++ drop 16 old)) (omega (arith, length-drop 16 (h ++ drop 16 old), length-append h (drop 16 old), length-drop 16 old, sixteen, size))
+
+-- what follows the sixteen registers, written number by number
+module _ (flags rip info mode : ℕ) where
+  abbrev A : List ℕ
+  A = little_bytes 8 flags ++ drop 8 (replicate 56 0)
+
+  abbrev B : List ℕ → List ℕ
+  B a = little_bytes 8 rip ++ drop 8 (take 48 (drop 8 a))
+
+  abbrev D : List ℕ → List ℕ → List ℕ
+  D a b = little_bytes 4 info ++ drop 4 (take 24 (drop 32 (put_mid 8 48 a b)))
+
+  pub tail_is : (a b d : List ℕ) → a ≡ A → b ≡ B a → d ≡ D a b →
+      slice_set (put_mid 32 24 (put_mid 8 48 a b) d) 36 mode ≡ le_bytes 8 flags ++ (le_bytes 8 rip ++ (replicate 16 0 ++ (le_bytes 4 info ++ (mode ∷ replicate 19 0))))
+  tail_is a b d ea eb ed =
+      let rest = λ (l : List ℕ). replicate 16 0 ++ (l ++ (mode ∷ replicate 19 0)) in
+      ap (λ l. slice_set (put_mid 32 24 (put_mid 8 48 a b) l) 36 mode) ed
+      ∙ ap (λ l. slice_set (put_mid 32 24 (put_mid 8 48 a l) (D a l)) 36 mode) eb
+      ∙ ap (λ l. slice_set (put_mid 32 24 (put_mid 8 48 l (B l)) (D l (B l))) 36 mode) ea
+      ∙ ap (λ l. l ++ (little_bytes 8 rip ++ rest (little_bytes 4 info))) (bytes-8 flags)
+      ∙ ap (λ l. le_bytes 8 flags ++ (l ++ rest (little_bytes 4 info))) (bytes-8 rip)
+      ∙ ap (λ l. le_bytes 8 flags ++ (le_bytes 8 rip ++ rest l)) (bytes-4 info)
 
 -- a frame at the end of a page: `size` is 200 where the frame has its length
 pub at_end : (page frame : List ℕ) → length page ≡ 4096 → length frame ≡ 200 → take 200 (drop 3896 (put_mid 3896 (length page - 3896) page frame)) ≡ frame

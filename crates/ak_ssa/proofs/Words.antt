@@ -1,11 +1,11 @@
 -- Numbers as the instructions spell them in bytes, and as `byteorder` reads and writes them.
-use Rattle.std.proofs.Common.{◌≡◌, ℕ, zero, suc, ◌+◌, ◌*◌, ◌<◌, ◌≤◌, List, [], ◌∷◌, ◌++◌, length, take, drop, refl, ap, sym, ◌∙◌, subst, arith}
-use Rattle.std.proofs.lemmas.List.{drop-drop, take-take, drop-take}
+use Rattle.std.proofs.Common.{◌≡◌, ℕ, zero, suc, ◌+◌, ◌-◌, ◌*◌, List, [], ◌∷◌, ◌++◌, length, take, drop, refl, ap, sym, ◌∙◌, subst, arith}
+use Rattle.std.proofs.lemmas.List.{drop-drop, take-take, drop-take, take_rest}
 use Rattle.std.proofs.Math.Nat.{div-div-eq-div-mul}
 use Rattle.std.specs.Prelude.{flat_map, slice_index}
 use Rattle.byteorder.specs.Endian.{IsRead, little_from, little_number, little_bytes}
 use Rattle.byteorder.specs.Numbers.{little_from-cons}
-use Rattle.ak_model.specs.Flat.Instructions.{le_bytes, le_value}
+use Rattle.ak_model.specs.Flat.Instructions.{le_bytes, le_value, number_at}
 use Rattle.ak_ssa.specs.SavedRegisters.{words_in, after_words}
 
 -- ---- Written
@@ -30,6 +30,10 @@ pub number : (n : ℕ) (xs : List ℕ) → little_number n xs ≡ le_value (take
 number zero xs = refl
 number (suc n) [] = none 0 (suc n)
 number (suc n) (x ∷ xs) = ap (λ y. x + 256 * y) (little_from-cons 0 n x xs ∙ number n xs)
+
+-- a number from a place on
+pub number_from : (place n : ℕ) (xs : List ℕ) → little_number n (take (length xs - place) (drop place xs)) ≡ number_at xs place n
+number_from place n xs = ap (little_number n) (take_rest xs place) ∙ number n (drop place xs)
 
 -- the words that were read
 pub words_read : (n : ℕ) (bytes words : List ℕ) → length words ≡ n → IsRead little_number 8 bytes words → words ≡ words_in n bytes
