@@ -16,8 +16,8 @@ returns c =
     let h = c.copy_from_slice.new.self in
     let g = c.write_u64_into.new.dst in
     let t = c.copy_from_slice-2.new.self in
-    let head : h ≡ exinfo c.args.why = c.copy_from_slice.ensures.after (λ y e. e) ∙ c.head.ensures in
-    let tail = c.copy_from_slice-2.ensures.after (λ y e. e) ∙ c.tail.ensures in
+    let head : h ≡ exinfo c.args.why = c.copy_from_slice.ensures.after ∙ c.head.ensures in
+    let tail = c.copy_from_slice-2.ensures.after ∙ c.tail.ensures in
     three h g t old (ap length head) (c.write_u64_into.auto.dst ∙ mid_size h old (ap length head) c.requires)
     ∙ ap (λ l. l ++ (g ++ t)) head ∙ ap (λ l. exinfo c.args.why ++ (l ++ t)) (c.write_u64_into.ensures ∙ words-8 c.args.regs.now.gpr)
     ∙ ap (λ l. exinfo c.args.why ++ (flat_map (le_bytes 8) c.args.regs.now.gpr ++ l)) tail
