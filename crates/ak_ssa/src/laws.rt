@@ -4,9 +4,18 @@ ghost use Rattle.ak_core.specs.declared.registers.Regs.{Regs as TheRegs};
 ghost use Rattle.ak_ssa.specs.declared.cause.Why.{Why as TheWhy};
 ghost use Rattle.ak_ssa.specs.FramesFit.{WhyFits, FrameFits, HasRoom};
 ghost use Rattle.ak_ssa.specs.ReadFrames.{frame_in, why_in};
-ghost use Rattle.ak_ssa.specs.SavedFrames.{HasFrame, SavedFrame, area_place, saved_bytes};
+ghost use Rattle.ak_ssa.specs.SavedFrames.{HasFrame, SavedFrame, area_place, state_place, saved_bytes};
 ghost use Rattle.ak_ssa.specs.SavedRegisters.{AreRegs, area_regs, regs_in};
 ghost use Rattle.std.specs.Prelude.{List, drop, take, ℕ, ◌≡◌};
+
+use crate::{AREA_PLACE, FRAME_SIZE, STATE_PLACE};
+
+/// The size of a frame and its places are those of the definitions.
+pub fn frames_stand_there()
+    ensures size { FRAME_SIZE ≡ 200 }
+    ensures area { AREA_PLACE ≡ area_place }
+    ensures state { STATE_PLACE ≡ state_place }
+{}
 
 /// The registers, and why the processor left, come back from the bytes of their frame.
 pub fn saved_returns()

@@ -1,4 +1,4 @@
-// Saved frames in the pages where processors save their registers.
+// Saved frames in saved-state areas.
 ghost use Rattle.std.specs.Prelude.{◌≡◌, ◌+◌, ◌^◌, ◌<◌, length, take, drop};
 ghost use Rattle.ak_core.specs.declared.registers.Regs.{Regs as TheRegs};
 ghost use Rattle.ak_ssa.specs.SavedFrames.{HasSaved, area_place, guard_regs};
@@ -10,13 +10,13 @@ ghost use Rattle.ak_ssa.specs.declared.cause.Why.{Why as TheWhy};
 use crate::{cause::Why, frame};
 use ak_core::{PAGE_SIZE, Regs};
 
-/// Where a frame stands in a page of saved state: it is the page's last 200 bytes (SDM volume 3D, "State Save Area").
+/// Where a frame stands in a saved-state area: it is the page's last 200 bytes (SDM volume 3D, "State Save Area").
 pub const AREA_PLACE: usize = 3896;
 
 /// Where the program's frame stands in the runtime's page STATE.
 pub const STATE_PLACE: usize = 2048;
 
-/// Saves the registers into a page of saved state, and why the processor left. The bytes below the frame stay.
+/// Saves the registers into a saved-state area, and why the processor left. The bytes below the frame stay.
 pub fn save(page: &mut [u8], regs: &Regs, why: Why)
     requires { length page.old ≡ PAGE_SIZE }
     ensures saved { HasSaved area_place page.new regs.now why }
@@ -25,7 +25,7 @@ pub fn save(page: &mut [u8], regs: &Regs, why: Why)
     frame::save(&mut page[AREA_PLACE..], regs, why);
 }
 
-/// The registers that a page of saved state holds, whatever its bytes are. What was saved is loaded.
+/// The registers that a saved-state area holds, whatever its bytes are. What was saved is loaded.
 pub fn load(page: &[u8]) -> Regs
     requires { length page.now ≡ PAGE_SIZE }
     ensures registers { result ≡ area_regs page.now }
@@ -34,7 +34,7 @@ pub fn load(page: &[u8]) -> Regs
     frame::load(&page[AREA_PLACE..])
 }
 
-/// What a page of saved state notes of the exit, whatever its bytes are: what was saved, and of a frame that was cleared since,
+/// What a saved-state area notes of the exit, whatever its bytes are: what was saved, and of a frame that was cleared since,
 /// that it was an interrupt.
 pub fn why(page: &[u8]) -> Why
     requires { length page.now ≡ PAGE_SIZE }
@@ -44,7 +44,7 @@ pub fn why(page: &[u8]) -> Why
     frame::why(&page[AREA_PLACE..])
 }
 
-/// Clears what a page of saved state notes of the exit: EXINFO, and EXITINFO with its VALID. The registers stay, and so do the
+/// Clears what a saved-state area notes of the exit: EXINFO, and EXITINFO with its VALID. The registers stay, and so do the
 /// bytes below the frame.
 pub fn clear_valid(page: &mut [u8])
     requires { length page.old ≡ PAGE_SIZE }
@@ -55,7 +55,7 @@ pub fn clear_valid(page: &mut [u8])
     frame::clear_valid(&mut page[AREA_PLACE..]);
 }
 
-/// Saves the guard's frame into a page of saved state, where CODE has this address. The bytes below the frame stay.
+/// Saves the guard's frame into a saved-state area, where CODE has this address. The bytes below the frame stay.
 pub fn guard(page: &mut [u8], code: u64)
     requires whole { length page.old ≡ PAGE_SIZE }
     requires room { code + 16 < 2 ^ 64 }
