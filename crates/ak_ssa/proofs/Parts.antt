@@ -99,7 +99,7 @@ cleared_saved regs why sixteen =
     let many : length gpr ≡ 128 = omega (arith, length-words regs.gpr, sixteen) in
     let frame = saved_bytes regs why in
     let after : drop 180 frame ≡ drop 36 tail =
-        sym (drop-drop 164 16 frame) ∙ ap (drop 164) (parts regs why) ∙ sym (drop-drop 36 128 (gpr ++ tail)) ∙ ap (drop 36) (drop_at gpr tail 128 many) in
+    sym (drop-drop 164 16 frame) ∙ ap (drop 164) (parts regs why) ∙ sym (drop-drop 36 128 (gpr ++ tail)) ∙ ap (drop 36) (drop_at gpr tail 128 many) in
     ap (λ l. replicate 16 0 ++ (take 160 l ++ (replicate 4 0 ++ drop 180 frame))) (parts regs why)
     ∙ ap (λ l. replicate 16 0 ++ (l ++ (replicate 4 0 ++ drop 180 frame))) (take_past gpr tail 128 32 many)
     ∙ ap (λ l. replicate 16 0 ++ ((gpr ++ take 32 tail) ++ (replicate 4 0 ++ l))) after

@@ -17,8 +17,8 @@ abbrev made : List ℕ → ℕ → Bool → Bool → Bool → Bool → Mode → 
 made gpr rip cf zf sf of mode = record { gpr = gpr; rip = rip; cf = cf; zf = zf; sf = sf; of = of; mode = mode }
 
 module _ (frame gpr : List ℕ) (flags rip : ℕ) (cf zf sf of : Bool) (mode : Mode) (is_gpr : gpr ≡ words_in 16 (take 128 (drop 16 frame))) (is_flags : flags ≡ number_at frame 144 8)
-  (is_rip : rip ≡ number_at frame 152 8) (is_cf : cf ≡ flag_in flags 1) (is_zf : zf ≡ flag_in flags 64) (is_sf : sf ≡ flag_in flags 128) (is_of : of ≡ flag_in flags 2048)
-  (is_mode : mode ≡ mode_in (slice_index frame 180)) where
+    (is_rip : rip ≡ number_at frame 152 8) (is_cf : cf ≡ flag_in flags 1) (is_zf : zf ≡ flag_in flags 64) (is_sf : sf ≡ flag_in flags 128) (is_of : of ≡ flag_in flags 2048)
+    (is_mode : mode ≡ mode_in (slice_index frame 180)) where
   gpr_read : gpr ≡ words_in 16 (drop 16 frame)
   gpr_read = is_gpr ∙ words_in-take 16 (drop 16 frame)
 

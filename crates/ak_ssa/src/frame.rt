@@ -16,17 +16,26 @@ pub const FRAME_SIZE: usize = 200;
 
 // Where each field stands in a frame. MADDR is first.
 const ERRCD: usize = 8;
+
 const GPR: usize = 16;
+
 const RFLAGS: usize = 144;
+
 const RIP: usize = 152;
+
 const EXITINFO: usize = 176;
+
 const MODE: usize = 180;
 
 // The flags in RFLAGS (SDM volume 1, "EFLAGS Register"). The second bit is always set.
 const CF: u64 = 1 << 0;
+
 const ALWAYS: u64 = 1 << 1;
+
 const ZF: u64 = 1 << 6;
+
 const SF: u64 = 1 << 7;
+
 const OF: u64 = 1 << 11;
 
 /// EXITINFO is valid, and of a hardware exception (SDM volume 3D, "EXITINFO").
@@ -211,7 +220,11 @@ fn mode_number(mode: Mode) -> u8
 fn mode_of(byte: u8) -> Mode
     ensures { result ≡ mode_in byte }
 {
-    if byte == 0 { Mode::Program } else { Mode::Runtime }
+    if byte == 0 {
+        Mode::Program
+    } else {
+        Mode::Runtime
+    }
 }
 
 /// Sixteen registers.

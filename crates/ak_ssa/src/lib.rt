@@ -7,6 +7,6 @@ pub mod frame;
 pub mod laws;
 mod page;
 
+pub use cause::Why;
 pub use frame::FRAME_SIZE;
 pub use page::{AREA_PLACE, STATE_PLACE, clear_valid, guard, load, save, why};
-pub use cause::Why;

@@ -7,7 +7,8 @@ ghost use Rattle.ak_ssa.specs.ReadFrames.{area_why, cleared};
 ghost use Rattle.ak_ssa.specs.FramesFit.{WhyFits};
 ghost use Rattle.ak_ssa.specs.declared.cause.Why.{Why as TheWhy};
 
-use crate::{cause::Why, frame};
+use crate::cause::Why;
+use crate::frame;
 use ak_core::{PAGE_SIZE, Regs};
 
 /// Where a frame stands in a saved-state area: it is the page's last 200 bytes (SDM volume 3D, "State Save Area").
