@@ -7,7 +7,7 @@ use Rattle.ak_core.specs.declared.moves.Answer.TheVariants.{Ok}
 use Rattle.ak_core.specs.declared.registers.Regs.{Regs}
 use Rattle.ak_relation.specs.Bytes.Contexts.{entry_regs}
 use Rattle.ak_relation.specs.Bytes.Pages.{IsTcs, flag_number}
-use Rattle.ak_ssa.specs.SavedFrames.{NoCause, SavedFrame, frame_bytes}
+use Rattle.ak_ssa.specs.SavedFrames.{NoCause, SavedFrame, frame_bytes, saved_bytes}
 use Rattle.ak_ssa.specs.SavedRegisters.{AreRegs}
 use Rattle.ak_track.specs.Steps.{EntersBy, LeavesBy}
 use Rattle.ak_relation.specs.State.MachineState.{Processor, State}
@@ -87,7 +87,7 @@ abbrev pub its_frame : SavedFrame
 its_frame = record { regs = its_regs; cause = NoCause }
 
 pub frame_size : length (frame_bytes one_page its_frame) ≡ 200
-unfolding frame_bytes
+unfolding saved_bytes
 frame_size = refl
 
 -- the TCS counts one context, which is in the first area

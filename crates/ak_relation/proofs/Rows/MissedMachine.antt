@@ -19,7 +19,7 @@ use Rattle.ak_model.specs.Flat.FlatRuns.{Flat, Line, carry_out, is_program, rest
 use Rattle.ak_relation.specs.Program.Seeing.{Sees}
 use Rattle.ak_relation.specs.State.MachineState.{State}
 use Rattle.ak_relation.specs.State.TableChanges.{with_mapping}
-use Rattle.ak_ssa.specs.SavedFrames.{ByPage, SavedFrame, frame_bytes}
+use Rattle.ak_ssa.specs.SavedFrames.{ByPage, SavedFrame, frame_bytes, saved_bytes}
 use Rattle.ak_track.specs.Steps.{EntersBy, LeavesBy}
 use Rattle.ak_relation.specs.Premises.Faulting.{Faults}
 use Rattle.ak_relation.specs.Premises.Saving.{Saves}
@@ -84,7 +84,7 @@ abbrev program_frame : SavedFrame
 program_frame = record { regs = first_regs; cause = ByPage fetch }
 
 frame_size : length (frame_bytes one_page program_frame) ≡ 200
-unfolding frame_bytes
+unfolding saved_bytes
 frame_size = refl
 
 -- the bytes of each frame
