@@ -1,0 +1,4 @@
+-- That the rules of a kernel are kept follows from the invariant.
+pub mod KeptMapped
+pub mod KeptOut
+pub mod KeptFetched
