@@ -5,3 +5,4 @@ pub mod AllRuns
 pub mod Start
 pub mod RunEnds
 pub mod AnswersReady
+pub mod Pace

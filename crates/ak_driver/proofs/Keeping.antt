@@ -2,3 +2,4 @@
 pub mod KeptMapped
 pub mod KeptOut
 pub mod KeptFetched
+pub mod RulesKept

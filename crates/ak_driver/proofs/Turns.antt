@@ -7,3 +7,4 @@ pub mod ProgramTurn
 pub mod RunsLead
 pub mod RunMove
 pub mod TurnsHold
+pub mod TurnMoments

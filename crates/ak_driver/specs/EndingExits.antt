@@ -1,6 +1,5 @@
 -- The exits by which an honest run ends.
-use Rattle.std.specs.Prelude.{Bool, true, false}
-use Rattle.std.specs.List.{list_any}
+use Rattle.std.specs.Prelude.{Bool, true, false, [], ◌∷◌}
 use Rattle.ak_core.specs.declared.moves.Exit.{Exit}
 use Rattle.ak_core.specs.declared.moves.Exit.TheVariants.{Ended, Trapped}
 use Rattle.ak_model.specs.Paging.Histories.{History, Change, Exits, change_of}
@@ -11,11 +10,12 @@ is_result (Ended s) = true
 is_result (Trapped v) = true
 is_result _ = false
 
--- a processor left with that exit
+-- a processor left with such an exit
 abbrev pub says_result : Change → Bool
 says_result (Exits lp exit) = is_result exit
 says_result _ = false
 
--- some processor has
-abbrev pub shows_result : History → Bool
-shows_result past = list_any (λ pair. says_result (change_of pair)) past
+-- the last move was answered by such an exit
+abbrev pub last_is_result : History → Bool
+last_is_result [] = false
+last_is_result (pair ∷ past) = says_result (change_of pair)

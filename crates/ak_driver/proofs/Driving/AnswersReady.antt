@@ -15,7 +15,7 @@ use Rattle.ak_model.specs.Control.ControlState.{Asked, Enter, Probe, Finish, Con
 use Rattle.ak_model.specs.Kernels.Counted.{service}
 use Rattle.ak_model.specs.Sound.Forced.{queue_by}
 use Rattle.ak_model.specs.Paging.Histories.{History}
-use Rattle.ak_model.specs.Kernels.HonestKernel.{is_ended, drive, IsDriven}
+use Rattle.ak_model.specs.Kernels.HonestKernel.{is_ended, drive}
 use Rattle.ak_model.specs.Paging.Inside.{inside, someone_inside}
 use Rattle.ak_model.specs.Laws.Orderly.{PhaseFits}
 use Rattle.ak_model.specs.Paging.Pages.{pages, pages_of, cluster_at}
@@ -32,9 +32,9 @@ use Rattle.ak_model.proofs.Control.OneInsideTrace.{counts_right}
 use Rattle.ak_model.proofs.Clusters.ValidClusters.{clusters_fit}
 use Rattle.ak_driver.specs.HonestRuns.{IsRoomy}
 use Rattle.ak_driver.proofs.Invariant.PageStates.{PageState}
-use Rattle.ak_driver.proofs.Invariant.Spots.{Begins, Probes, Finishes, Spot, Idle, Entered, InProgram, Leaving, Left, Handling, Requested, Answering, Resumable, Over, Progress, control_at}
+use Rattle.ak_driver.proofs.Invariant.Spots.{Begins, Probes, Finishes, Spot, Answering, Progress, control_at}
 use Rattle.ak_driver.proofs.Invariant.HonestMoments.{IsHonest}
-use Rattle.ak_driver.proofs.Driving.AllRuns.{all_honest, someone_there}
+use Rattle.ak_driver.proofs.Driving.AllRuns.{someone_there}
 use Rattle.ak_driver.proofs.Turns.AnsweringTurn.{begins_quiet, finish_quiet, probe_quiet}
 use Rattle.ak_driver.proofs.Driving.DrivenMove.{gives}
 use Rattle.ak_driver.proofs.Driving.KernelSteps.{first_found}
@@ -95,47 +95,25 @@ module _ (layout : Layout) (past : History) (control : Control) (c v : ℕ) (res
       let limit = valid.few_pages in
       ap (λ k. (run layout past n k).exit) old.control_is ∙ begins_ran n some (omega arith)
 
--- the control state tells that an entering answers
-answering_at : (c v : ℕ) (spot : Spot) (rest : Progress) → (control_at spot rest).phase ≡ Asked c → (control_at spot rest).now ≡ Some (Enter 1 v) → spot ≡ Answering c (Begins v)
-answering_at c v (Answering d (Begins w)) rest p n = cc
-answering_at c v (Answering d (Probes i)) rest p n = absurd (cc)
-answering_at c v (Answering d Finishes) rest p n = absurd (cc)
-answering_at c v (Idle called) rest p n = absurd (cc)
-answering_at c v (Entered true w) rest p n = absurd (cc)
-answering_at c v (Entered false w) rest p n = absurd (cc)
-answering_at c v InProgram rest p n = absurd (cc)
-answering_at c v (Leaving b a) rest p n = absurd (cc)
-answering_at c v (Left fault) rest p n = absurd (cc)
-answering_at c v (Handling fault w) rest p n = absurd (cc)
-answering_at c v (Requested d) rest p n = absurd (cc)
-answering_at c v Resumable rest p n = absurd (cc)
-answering_at c v (Over end stack) rest p n = absurd (cc)
-
 module _ (layout : Layout) (valid : IsValid layout) (roomy : IsRoomy layout) (tape : List Event) (misses : MissesFit layout (queue_at_build layout.build layout) tape) (whole : has_break tape ≡ false) (inputs : List ℕ)
-    (moves : List Move) (driven : IsDriven layout tape inputs moves) (c v : ℕ) (asked : (trace layout tape moves).control.phase ≡ Asked c) (entered : (trace layout tape moves).control.now ≡ Some (Enter 1 v)) where
+    (moves : List Move) (c v : ℕ) (rest : Progress) (states : ℕ → PageState) (old : IsHonest layout (trace layout tape moves).past (trace layout tape moves).control (Answering c (Begins v)) rest states) where
   -- once a processor has entered while cluster c is asked for, the kernel runs it, and the runtime says Ready
   pub answers_ready : (drive layout (trace layout tape moves).past inputs ≡ Some (Run (record { 0 = 0 }) 1000)) × (answer layout (trace layout tape moves).past (trace layout tape moves).control (Run (record { 0 = 0 }) 1000) ≡ Answer.Exit Exit.Ready)
   answers_ready =
-      let now = all_honest layout valid roomy tape misses whole inputs moves driven in
-      let k = now.holds.control_is in
-      let s = answering_at c v now.spot now.rest (ap (λ x. x.phase) (sym k) ∙ asked) (ap (λ x. x.now) (sym k) ∙ entered) in
-      by now.rest now.states (subst (λ x. IsHonest layout (trace layout tape moves).past (trace layout tape moves).control x now.rest now.states) s now.holds)
-    where
-      by : (rest : Progress) (states : ℕ → PageState) → IsHonest layout (trace layout tape moves).past (trace layout tape moves).control (Answering c (Begins v)) rest states
-          → (drive layout (trace layout tape moves).past inputs ≡ Some (Run (record { 0 = 0 }) 1000)) × (answer layout (trace layout tape moves).past (trace layout tape moves).control (Run (record { 0 = 0 }) 1000) ≡ Answer.Exit Exit.Ready)
-      by rest states old =
-          let past = (trace layout tape moves).past in
-          let control = (trace layout tape moves).control in
-          let counts = counts_right layout tape moves in
-          let copies = one_copy layout tape moves in
-          let laws = trace_is_orderly layout valid tape misses moves in
-          let orderly = someone_there layout valid roomy tape misses whole inputs moves (someone_inside layout past) laws (ap is_some entered) in
-          let counted : (service layout past).queue ≡ rest.queue = counts.queue_is ∙ ap (λ x. x.queue) old.control_is in
-          let known : PhaseFits layout control.queue control.cause (Asked c) = subst (λ x. PhaseFits layout control.queue control.cause x) asked laws.phase in
-          let e : is_ended past ≡ false = old.going in
-          let i : inside past 0 ≡ true = old.inside_is 0 in
-          let f = first_found (inside past) layout.lps valid.some_lp i in (
-            gives layout past control (Answering c (Begins v)) rest states inputs valid roomy copies counts old _ (rw (e, f) refl),
-            run_answered layout past control (Answering c (Begins v)) rest states old refl valid copies (queue_by layout (program_turns layout tape moves)) orderly counted 1000
-                ∙ ap Answer.Exit (ready_ran layout past control c v rest states valid copies old counted 1000 (omega arith) known.0),
-          )
+      let past = (trace layout tape moves).past in
+      let control = (trace layout tape moves).control in
+      let counts = counts_right layout tape moves in
+      let copies = one_copy layout tape moves in
+      let laws = trace_is_orderly layout valid tape misses moves in
+      let asked : control.phase ≡ Asked c = ap (λ x. x.phase) old.control_is in
+      let entered : control.now ≡ Some (Enter 1 v) = ap (λ x. x.now) old.control_is in
+      let orderly = someone_there layout valid roomy tape misses whole inputs moves (someone_inside layout past) laws (ap is_some entered) in
+      let counted : (service layout past).queue ≡ rest.queue = counts.queue_is ∙ ap (λ x. x.queue) old.control_is in
+      let known : PhaseFits layout control.queue control.cause (Asked c) = subst (λ x. PhaseFits layout control.queue control.cause x) asked laws.phase in
+      let e : is_ended past ≡ false = old.going in
+      let i : inside past 0 ≡ true = old.inside_is 0 in
+      let f = first_found (inside past) layout.lps valid.some_lp i in (
+        gives layout past control (Answering c (Begins v)) rest states inputs valid roomy copies counts old _ (rw (e, f) refl),
+        run_answered layout past control (Answering c (Begins v)) rest states old refl valid copies (queue_by layout (program_turns layout tape moves)) orderly counted 1000
+            ∙ ap Answer.Exit (ready_ran layout past control c v rest states valid copies old counted 1000 (omega arith) known.0),
+      )

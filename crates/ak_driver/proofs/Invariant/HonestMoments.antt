@@ -13,6 +13,7 @@ use Rattle.ak_model.specs.Stops.ShownStop.{has_break, shows_stop}
 use Rattle.ak_model.specs.Kernels.HonestKernel.{is_ended}
 use Rattle.ak_model.specs.Kernels.KernelRules.{entered_since_ask}
 use Rattle.ak_model.specs.Control.Trace.{Moment}
+use Rattle.ak_model.specs.Laws.OneLiveCopy.{OneCopy}
 use Rattle.ak_driver.proofs.Invariant.PageStates.{PageState, Out, Blocked, In}
 use Rattle.ak_driver.proofs.Invariant.PagesStand.{PagesStand}
 use Rattle.ak_driver.proofs.Invariant.Spots.{Spot, Requested, Answering, Over, Progress, control_at, is_within, asks, is_requested}
@@ -76,3 +77,7 @@ pub record HonestMoment (layout : Layout) (moment : Moment) : Type 0 where
   pub rest : Progress
   pub states : ℕ → PageState
   pub holds : IsHonest layout moment.past moment.control spot rest states
+
+-- and its sealed copies are in order
+abbrev pub HonestAt : Layout → Moment → Type 0
+HonestAt layout moment = HonestMoment layout moment × OneCopy layout moment.past

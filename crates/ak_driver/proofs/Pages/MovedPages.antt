@@ -18,7 +18,7 @@ use Rattle.ak_driver.proofs.Pages.ChangedStates.{frame_changes, same}
 use Rattle.ak_driver.proofs.Pages.MoveSteps.{full, self, other_frame, each_by}
 
 -- where the test fails everywhere, the filter keeps nothing
-none_kept : (test : ℕ → Bool) (xs : List ℕ) → ((x : ℕ) → test x ≡ false) → filter test xs ≡ []
+pub none_kept : (test : ℕ → Bool) (xs : List ℕ) → ((x : ℕ) → test x ≡ false) → filter test xs ≡ []
 none_kept test [] h = refl
 none_kept test (x ∷ xs) h = let e = h x in rw e (none_kept test xs h)
 

@@ -76,7 +76,7 @@ module _ (layout : Layout) (past : History) (control : Control) (c : ℕ) (rest 
     pub fetched_in : Each (λ p. not (is_mapped layout past p) ≡ false) fetched
 
   abbrev pub Does : Move → Type 0
-  Does m = Serves layout past control c rest m ⊎ Enters m
+  Does m = Serves layout past control c rest states m ⊎ Enters m
 
   not_in : (p : ℕ) → p < pages layout → is_present p ≡ false → states p ≡ In → ⊥
   not_in p low h e = absurd (let t = in_present layout past states copies old.stands p low e in let b : true ≡ false = sym t ∙ h in cc)
@@ -94,9 +94,9 @@ module _ (layout : Layout) (past : History) (control : Control) (c : ℕ) (rest 
       subst (λ o. Ruled Does (Each (λ x. is_loose x ≡ false) evicted) (move_on o (λ f. Eblock (record { 0 = f })))) (sym (ap frame_in v.2))
       (inl (serves_block layout past control c rest states valid roomy copies old p v.0 h.0.0 h.0.1 v.1 v.2)))
 
-  track_ruled : Ruled Does (Each (λ p. is_untracked p ≡ false) evicted) (track_rule layout past evicted)
-  track_ruled = first_rule Does (IsAmong layout leaving) is_untracked evicted _ (each_among layout leaving)
-      (λ p h t. inl (serves_track layout past control c rest states valid roomy copies old))
+  track_ruled : Each (λ p. is_loose p ≡ false) evicted → Ruled Does (Each (λ p. is_untracked p ≡ false) evicted) (track_rule layout past evicted)
+  track_ruled blocked = first_rule Does (IsAmong layout leaving) is_untracked evicted _ (each_among layout leaving)
+      (λ p h t. inl (serves_track layout past control c rest states valid roomy copies old blocked p h.0 h.1 t))
 
   write_ruled : Each (λ p. is_loose p ≡ false) evicted → Each (λ p. is_untracked p ≡ false) evicted → Ruled Does (Each (λ p. is_some (frame_of layout past p) ≡ false) evicted) (write_out_rule layout past evicted)
   write_ruled blocked tracked_all = first_rule Does (λ p. IsAmong layout leaving p × ((is_loose p ≡ false) × (is_untracked p ≡ false))) (λ p. is_some (frame_of layout past p)) evicted _
@@ -104,7 +104,7 @@ module _ (layout : Layout) (past : History) (control : Control) (c : ℕ) (rest 
       (λ p h t.
       let v = blocked_or layout past states copies old.stands p h.0.0 t h.1.0 h.1.1 in
       subst (λ o. Ruled Does (Each (λ x. is_some (frame_of layout past x) ≡ false) evicted) (move_on o (λ f. Ewb (record { 0 = f }) (record { 0 = 1 }) p))) (sym (ap frame_in v.2))
-      (inl (serves_write layout past control c rest states valid roomy copies old p v.0 h.0.0 h.0.1 v.1 v.2 v.3)))
+      (inl (serves_write layout past control c rest states valid roomy copies old p v.0 h.0.0 h.0.1 v.1 v.2 v.3 tracked_all)))
 
   -- each page that leaves is out, where no evicted one is in a frame
   all_out : Each (λ p. is_some (frame_of layout past p) ≡ false) evicted → (q : ℕ) → q < pages layout → is_in leaving (cluster_at layout q) ≡ true → states q ≡ Out
@@ -122,7 +122,7 @@ module _ (layout : Layout) (past : History) (control : Control) (c : ℕ) (rest 
       let f = room (all_out gone) p h.0 h.1 v.1 in
       subst (λ o. Ruled Does (Each (λ x. is_none (frame_of layout past x) ≡ false) fetched) (load_into p (newest_copy layout past p) o)) (sym f.1)
       (subst (λ copy. Does (Eldu (record { 0 = f.0 }) (record { 0 = copy.handle }) (record { 0 = p }) (record { 0 = copy.va }) copy.slot)) (sym v.4)
-      (inl (serves_load layout past control c rest states valid roomy copies old p f.0 v.0 h.0 h.1 v.1 v.2 v.3 f.2 f.3))))
+      (inl (serves_load layout past control c rest states valid roomy copies old p f.0 v.0 h.0 h.1 v.1 v.2 v.3 f.2 f.3 gone))))
 
   -- a page that is fetched is not blocked
   never_blocked : (p : ℕ) → p < pages layout → cluster_at layout p ≡ c → states p ≡ Blocked → ⊥
@@ -151,7 +151,7 @@ module _ (layout : Layout) (past : History) (control : Control) (c : ℕ) (rest 
   serve_ruled =
       chain Does _ ⊥ _ _ unmap_ruled (λ bare.
       chain Does _ ⊥ _ _ (block_ruled bare) (λ blocked.
-      chain Does _ ⊥ _ _ track_ruled (λ tracked_all.
+      chain Does _ ⊥ _ _ (track_ruled blocked) (λ tracked_all.
       chain Does _ ⊥ _ _ (write_ruled blocked tracked_all) (λ gone.
       chain Does _ ⊥ _ _ (load_ruled gone) (λ loaded.
       chain Does _ ⊥ _ _ (map_ruled loaded) (λ mapped.

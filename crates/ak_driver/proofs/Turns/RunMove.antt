@@ -24,6 +24,7 @@ use Rattle.ak_model.specs.Laws.Orderly.{IsOrderly}
 use Rattle.ak_model.specs.Control.Answers.{answer}
 use Rattle.ak_model.specs.Control.Runs.{run}
 use Rattle.ak_model.specs.Laws.OneLiveCopy.{OneCopy}
+use Rattle.ak_model.specs.Stops.Blame.{resumes}
 use Rattle.ak_driver.proofs.Invariant.PageStates.{PageState, IsInStateBy}
 use Rattle.ak_driver.proofs.Invariant.Untouched.{UntouchedBy}
 use Rattle.ak_driver.proofs.Invariant.PagesStand.{PagesStand}
@@ -45,7 +46,7 @@ all_over lp (cycle ∷ older) h =
     let b = without_over lp cycle.waiting a.0 in let c = all_over lp older a.1 in rw (b, c) refl
 
 -- an exit but Still is a leaving
-left_change : (n : ℕ) (exit : Exit) → (exit ≡ Still → ⊥) → change_of (Run (record { 0 = 0 }) n, Answer.Exit exit) ≡ Exits 0 exit
+pub left_change : (n : ℕ) (exit : Exit) → (exit ≡ Still → ⊥) → change_of (Run (record { 0 = 0 }) n, Answer.Exit exit) ≡ Exits 0 exit
 left_change n (Exit.Pf base code) h = refl
 left_change n (Exit.Vector v) h = refl
 left_change n (Exit.Ask d c) h = refl
@@ -56,6 +57,19 @@ left_change n Exit.Stopped h = refl
 left_change n (Exit.Ended s) h = refl
 left_change n (Exit.Trapped v) h = refl
 left_change n Still h = absurd (h refl)
+
+-- no run is a resuming
+pub never_resumes : (n : ℕ) (exit : Exit) → resumes (change_of (Run (record { 0 = 0 }) n, Answer.Exit exit)) ≡ false
+never_resumes n (Exit.Pf base code) = refl
+never_resumes n (Exit.Vector v) = refl
+never_resumes n (Exit.Ask d c) = refl
+never_resumes n Exit.Ready = refl
+never_resumes n (Exit.Call b a) = refl
+never_resumes n Exit.Nothing = refl
+never_resumes n Exit.Stopped = refl
+never_resumes n (Exit.Ended s) = refl
+never_resumes n (Exit.Trapped v) = refl
+never_resumes n Still = refl
 
 -- nothing is over at a spot inside
 pub within_going : (spot : Spot) → is_within spot ≡ true → is_over_at spot ≡ false
@@ -119,8 +133,13 @@ module _ (layout : Layout) (past : History) (control : Control) (spot : Spot) (r
         subst (λ c. RunLeads (service layout past) spot rest (run layout past n c)) (sym old.control_is)
         (run_leads layout past states valid copies old.stands (service layout past) n spot rest so_far within counted old.unbroken old.fits o)
 
-    after_still : (exit : Exit) (next : Control) → exit ≡ Still → GoesOn spot rest next → (to : Spot) × (more : Progress) × IsHonest layout ((Run (record { 0 = 0 }) n, Answer.Exit exit) ∷ past) next to more states
-    after_still exit next e g = subst (λ x. (to : Spot) × (more : Progress) × IsHonest layout ((Run (record { 0 = 0 }) n, Answer.Exit x) ∷ past) next to more states) (sym e) (
+    -- the run keeps the invariant, and is outside after it unless it is still going
+    abbrev pub RunsTo : Exit → Control → Type 0
+    RunsTo exit next =
+        (to : Spot) × (more : Progress) × IsHonest layout ((Run (record { 0 = 0 }) n, Answer.Exit exit) ∷ past) next to more states × ((exit ≡ Still → ⊥) → is_within to ≡ false)
+
+    after_still : (exit : Exit) (next : Control) → exit ≡ Still → GoesOn spot rest next → RunsTo exit next
+    after_still exit next e g = subst (λ x. RunsTo x next) (sym e) (
       g.next,
       g.after,
       record {
@@ -136,9 +155,10 @@ module _ (layout : Layout) (past : History) (control : Control) (spot : Spot) (r
         unbroken = g.unbroken;
         granted = done_granted (Run (record { 0 = 0 }) n, Answer.Exit Still) past refl;
       },
+      λ h. absurd (h refl),
     )
 
-    after_left : (exit : Exit) (next : Control) → LeavesFor (service layout past) spot rest exit next → (to : Spot) × (more : Progress) × IsHonest layout ((Run (record { 0 = 0 }) n, Answer.Exit exit) ∷ past) next to more states
+    after_left : (exit : Exit) (next : Control) → LeavesFor (service layout past) spot rest exit next → RunsTo exit next
     after_left exit next l =
         let pair : Pair = (Run (record { 0 = 0 }) n, Answer.Exit exit) in
         let is = left_change n exit l.left in
@@ -158,12 +178,13 @@ module _ (layout : Layout) (past : History) (control : Control) (spot : Spot) (r
             unbroken = l.unbroken;
             granted = done_granted pair past refl;
           },
+          λ h. l.outside,
         )
 
-    -- a run keeps the invariant
-    pub runs : (to : Spot) × (more : Progress) × IsHonest layout ((Run (record { 0 = 0 }) n, Answer.Exit (run layout past n control).exit) ∷ past) (run layout past n control).control to more states
+    -- such is each run
+    pub runs : RunsTo (run layout past n control).exit (run layout past n control).control
     runs = by leads
       where
-        by : RunLeads (service layout past) spot rest (run layout past n control) → (to : Spot) × (more : Progress) × IsHonest layout ((Run (record { 0 = 0 }) n, Answer.Exit (run layout past n control).exit) ∷ past) (run layout past n control).control to more states
+        by : RunLeads (service layout past) spot rest (run layout past n control) → RunsTo (run layout past n control).exit (run layout past n control).control
         by (inl s) = after_still (run layout past n control).exit (run layout past n control).control s.0 s.1
         by (inr l) = after_left (run layout past n control).exit (run layout past n control).control l
