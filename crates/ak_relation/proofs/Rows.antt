@@ -1,6 +1,9 @@
 -- Machines of an example that the relation holds of, computed.
 pub mod BlankPages
 pub mod BuiltMachine
+pub mod StepMemory
+pub mod StatePages
+pub mod StepContexts
 pub mod EnteredMachine
 pub mod WrittenMachine
 pub mod ResumedMachine
@@ -8,3 +11,4 @@ pub mod ProgramMachine
 pub mod StartedMachine
 pub mod ComputedMachine
 pub mod MissedMachine
+pub mod AskedMachine

@@ -16,7 +16,7 @@ use Rattle.ak_relation.specs.Program.Seeing.{Sees}
 use Rattle.ak_relation.specs.Premises.Computing.{Computes}
 use Rattle.ak_relation.specs.Relation.Does.{IsTurn, IsMove}
 use Rattle.ak_relation.specs.Relation.MoveByMove.{AreMoves}
-use Rattle.ak_relation.specs.Relation.Example.{one_page, no_operations, computed_past, IsReached}
+use Rattle.ak_relation.specs.Relation.Example.{one_page, input_program, computed_past, IsReached}
 use Rattle.ak_relation.proofs.Program.ComputedTurns.{computed_turns}
 use Rattle.ak_relation.proofs.Runs.WholeRuns.{still_moves}
 use Rattle.ak_relation.proofs.Rows.BuiltMachine.{page_valid, outside}
@@ -34,11 +34,11 @@ abbrev fetch : Access
 fetch = access_to 0 Exec
 
 -- what the page's first byte says
-decoded : (flat : Flat) → flat.regs ≡ first_regs → in_first_page one_page flat 0 (decode (drop 0 no_operations)) ≡ line_of (fetch ∷ []) (End.Next (record flat { regs = next_regs }))
-unfolding no_operations
+decoded : (flat : Flat) → flat.regs ≡ first_regs → in_first_page one_page flat 0 (decode (drop 0 input_program)) ≡ line_of (fetch ∷ []) (End.Next (record flat { regs = next_regs }))
+unfolding input_program
 decoded flat same = ap (λ (regs : Regs). line_of (fetch ∷ []) (End.Next (record flat { regs = record regs { rip = regs.rip + 1 } }))) same
 
-its_line : (flat : Flat) → flat.regs ≡ first_regs → page_bytes flat 0 ≡ no_operations → line one_page flat ≡ line_of (fetch ∷ []) (End.Next (record flat { regs = next_regs }))
+its_line : (flat : Flat) → flat.regs ≡ first_regs → page_bytes flat 0 ≡ input_program → line one_page flat ≡ line_of (fetch ∷ []) (End.Next (record flat { regs = next_regs }))
 its_line flat same bytes =
     ap (λ (regs : Regs). line one_page (record flat { regs = regs })) same
     ∙ ap (λ page. in_first_page one_page (record flat { regs = first_regs }) 0 (decode (drop 0 page))) bytes
@@ -99,7 +99,7 @@ run_move =
     (started, None, None, (begun, None, None, (refl, refl), start_turn, refl), compute_turn, refl)
 
 -- the moves
-compute_reached : AreMoves one_page no_operations computed_past computed []
+compute_reached : AreMoves one_page input_program computed_past computed []
 compute_reached = (begun, [], None, begin_reached, run_move, refl)
 
 -- some machine has cached a translation, and completed an instruction

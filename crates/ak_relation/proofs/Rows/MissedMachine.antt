@@ -25,7 +25,7 @@ use Rattle.ak_relation.specs.Premises.Faulting.{Faults}
 use Rattle.ak_relation.specs.Premises.Saving.{Saves}
 use Rattle.ak_relation.specs.Relation.Does.{IsTurn, IsMove}
 use Rattle.ak_relation.specs.Relation.MoveByMove.{AreMoves}
-use Rattle.ak_relation.specs.Relation.Example.{one_page, no_operations, started_past, hidden_past, missed_past, IsReached}
+use Rattle.ak_relation.specs.Relation.Example.{one_page, input_program, started_past, hidden_past, missed_past, IsReached}
 use Rattle.ak_relation.proofs.Exits.ExitTurns.{miss_turns}
 use Rattle.ak_relation.proofs.Leaves.DoneMoves.{set_pte_moves}
 use Rattle.ak_relation.proofs.Runs.WholeRuns.{still_moves, exit_moves}
@@ -37,7 +37,7 @@ use Rattle.ak_relation.proofs.Rows.StartedMachine.{first_regs, starting, started
 -- ---- The first access of any instruction
 
 -- the fetch
-abbrev fetch : Access
+abbrev pub fetch : Access
 fetch = access_to 0 Exec
 
 -- it stands first in the line
@@ -60,7 +60,7 @@ begins flat (Whole instr size) = carried flat (plan instr (record flat.regs { ri
 begins flat Illegal = refl
 begins flat NeedMore = refl
 
-first_fetch : (flat : Flat) → flat.regs ≡ first_regs → IsFirst (line one_page flat)
+pub first_fetch : (flat : Flat) → flat.regs ≡ first_regs → IsFirst (line one_page flat)
 first_fetch flat same =
     ap (λ (regs : Regs). slice_get (line one_page (record flat { regs = regs })).accesses 0) same ∙ begins (record flat { regs = first_regs }) (decode (rest_of_page one_page (record flat { regs = first_regs }) 0))
 
@@ -80,10 +80,10 @@ hide_move = set_pte_moves one_page started (record { 0 = 0 }) (record { 0 = 0 })
 -- ---- The miss
 
 -- the program's frame, with the access
-abbrev program_frame : SavedFrame
+abbrev pub program_frame : SavedFrame
 program_frame = record { regs = first_regs; cause = ByPage fetch }
 
-frame_size : length (frame_bytes one_page program_frame) ≡ 200
+pub frame_size : length (frame_bytes one_page program_frame) ≡ 200
 unfolding frame_bytes
 frame_size = refl
 
@@ -91,7 +91,7 @@ frame_size = refl
 abbrev missed_frames : ℕ → List ℕ
 missed_frames f = if f == 2 then one_refused else (if f == 3 then area_with (frame_bytes one_page program_frame) else started.frames f)
 
-missed_whole : (f : ℕ) → length (missed_frames f) ≡ 4096
+pub missed_whole : (f : ℕ) → length (missed_frames f) ≡ 4096
 missed_whole f = by (f == 2) (f == 3)
   where
     by : (a b : Bool) → length (if a then one_refused else (if b then area_with (frame_bytes one_page program_frame) else started.frames f)) ≡ 4096
@@ -149,13 +149,13 @@ miss_move =
     (refl, refl) miss_turn refl
 
 -- the moves
-start_reached : AreMoves one_page no_operations started_past started []
+start_reached : AreMoves one_page input_program started_past started []
 start_reached = (begun, [], None, begin_reached, start_move, refl)
 
-hide_reached : AreMoves one_page no_operations hidden_past hidden []
+hide_reached : AreMoves one_page input_program hidden_past hidden []
 hide_reached = (started, [], None, start_reached, hide_move, refl)
 
-miss_reached : AreMoves one_page no_operations missed_past missed (Miss 0 0 ∷ [])
+pub miss_reached : AreMoves one_page input_program missed_past missed (Miss 0 0 ∷ [])
 miss_reached = (hidden, [], Some (Miss 0 0), hide_reached, miss_move, refl)
 
 -- some machine has an event
