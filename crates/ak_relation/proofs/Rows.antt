@@ -12,3 +12,4 @@ pub mod StartedMachine
 pub mod ComputedMachine
 pub mod MissedMachine
 pub mod AskedMachine
+pub mod FetchedMachine
