@@ -13,3 +13,4 @@ pub mod ComputedMachine
 pub mod MissedMachine
 pub mod AskedMachine
 pub mod FetchedMachine
+pub mod BrokenMachine

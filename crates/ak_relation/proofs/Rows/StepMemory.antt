@@ -16,7 +16,8 @@ use Rattle.ak_model.specs.Paging.Frames.{held}
 use Rattle.ak_model.specs.Flat.FlatRuns.{Flat}
 use Rattle.ak_model.specs.Control.ControlState.{Context, Control}
 use Rattle.ak_epcm.specs.Entries.{entry_at}
-use Rattle.ak_relation.specs.Bytes.SavedFrames.{SavedCause, SavedFrame, frame_bytes}
+use Rattle.ak_relation.specs.Bytes.SavedFrames.{SavedCause, SavedFrame, frame_bytes, area_place, HasFrame}
+use Rattle.ak_relation.specs.Bytes.FramesFit.{CauseFits}
 use Rattle.ak_relation.specs.Bytes.Contexts.{entry_regs}
 use Rattle.ak_relation.specs.Bytes.Pages.{IsTcs}
 use Rattle.ak_relation.specs.State.MachineState.{Processor, State}
@@ -25,6 +26,8 @@ use Rattle.ak_relation.specs.State.Tables.{TablesStand}
 use Rattle.ak_relation.specs.State.TrackSteps.{EntersBy, LeavesBy}
 use Rattle.ak_relation.specs.Premises.EnterRows.{walk_in, saved_in, enter_row}
 use Rattle.ak_relation.specs.Premises.Entering.{EntersAt}
+use Rattle.ak_relation.specs.Premises.Saving.{missed_in, Saves}
+use Rattle.ak_model.specs.Laws.Orderly.{after_miss_if}
 use Rattle.ak_relation.specs.Premises.StepsTo.{Outcome, MayStep, StepsTo, memory_of}
 use Rattle.ak_relation.specs.Premises.Works.{AreFound, WritesFrames, Ends, exit_of}
 use Rattle.ak_relation.specs.Premises.Shows.{MemorySees, StepLeaves, ShowsStep}
@@ -35,7 +38,7 @@ use Rattle.ak_relation.proofs.Runtime.ValidTurns.{valid_turns}
 use Rattle.ak_relation.proofs.Entering.EnterAnswers.{walk_same}
 use Rattle.ak_relation.proofs.Entering.EnterMoves.{enter_moves}
 use Rattle.ak_relation.proofs.Leaves.ViewStands.{view-same}
-use Rattle.ak_relation.proofs.Rows.BlankPages.{area_with}
+use Rattle.ak_relation.proofs.Rows.BlankPages.{area_with, area_whole, area_has}
 use Rattle.ak_relation.proofs.Rows.BuiltMachine.{page_valid, outside}
 
 -- ---- Bytes at few places
@@ -261,3 +264,43 @@ entered_move old n v tcs low saved is whole all row =
       next = refl;
       table = refl;
     }
+
+-- ---- A saving
+
+-- the area's bytes, with the registers of the processor inside
+abbrev pub saved_bytes : State → SavedCause → List ℕ
+saved_bytes old cause = frame_bytes one_page (record { regs = (old.processors 0).regs; cause = cause })
+
+-- the machine, with these bytes of the TCS
+abbrev pub saved_with : State → SavedCause → List ℕ → State
+saved_with old cause tcs = record old {
+  frames = over (at_place (old.processors 0).tcs tcs ∷ at_place (old.processors 0).ssa (area_with (saved_bytes old cause)) ∷ []) old.frames;
+  processors = λ lp. if lp == 0 then outside else old.processors lp;
+  track = LeavesBy 0 ∷ old.track;
+}
+
+pub saves_with : (old : State) (saved : ℕ) (pending : Bool) (cause : SavedCause) (tcs : List ℕ) → (old.processors 0).regs.mode ≡ Mode.Program → CauseFits one_page cause →
+    ((old.processors 0).ssa == (old.processors 0).tcs) ≡ false → IsTcs (saved + 1) pending tcs → length tcs ≡ 4096 → length (saved_bytes old cause) ≡ 200 →
+    ((g : ℕ) → length (old.frames g) ≡ 4096) → old.queue ≡ after_miss_if one_page old.queue (missed_in one_page old.queue cause (old.processors 0).regs.mode) →
+    Saves one_page 0 saved pending cause old (saved_with old cause tcs)
+saves_with old saved pending cause tcs mode fits apart is whole size all queue = record {
+  area = subst (λ b. HasFrame one_page area_place (if b then tcs else (if (old.processors 0).ssa == (old.processors 0).ssa then area_with (saved_bytes old cause) else old.frames (old.processors 0).ssa)) (record { regs = (old.processors 0).regs; cause = cause })) (sym apart)
+      (subst (λ b. HasFrame one_page area_place (if b then area_with (saved_bytes old cause) else old.frames (old.processors 0).ssa) (record { regs = (old.processors 0).regs; cause = cause })) (sym (equal (old.processors 0).ssa))
+      (area_has (saved_bytes old cause) size));
+  words = λ runtime. absurd (let clash : Mode.Runtime ≡ Mode.Program = sym runtime ∙ mode in cc);
+  fits = fits;
+  tcs = subst (λ b. IsTcs (saved + 1) pending (if b then tcs else over (at_place (old.processors 0).ssa (area_with (saved_bytes old cause)) ∷ []) old.frames (old.processors 0).tcs)) (sym (equal (old.processors 0).tcs)) is;
+  frames = λ g no_tcs no_area. rw (no_tcs, no_area) refl;
+  whole = over_whole (at_place (old.processors 0).tcs tcs ∷ at_place (old.processors 0).ssa (area_with (saved_bytes old cause)) ∷ []) old.frames (whole, (area_whole (saved_bytes old cause) size, tt)) all;
+  left = refl;
+  flushed = refl;
+  others = λ q e. rw e refl;
+  track = refl;
+  entries = refl;
+  count = refl;
+  queue = queue;
+  stamps = refl;
+  sealed_pages = refl;
+  next = refl;
+  table = refl;
+}
