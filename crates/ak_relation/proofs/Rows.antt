@@ -14,3 +14,4 @@ pub mod MissedMachine
 pub mod AskedMachine
 pub mod FetchedMachine
 pub mod BrokenMachine
+pub mod CalledMachine

@@ -26,7 +26,7 @@ use Rattle.ak_relation.proofs.Rows.StartedMachine.{first_regs, starting, started
 -- ---- The instruction
 
 -- the registers after it
-abbrev next_regs : Regs
+abbrev pub next_regs : Regs
 next_regs = record first_regs { rip = one_page.base + 1 }
 
 -- the fetch
@@ -47,7 +47,7 @@ its_line flat same bytes =
 -- ---- The machine
 
 -- what was cached
-abbrev cached : Fill
+abbrev pub cached : Fill
 cached = record { access = fetch; frame = 8 }
 
 -- the processor
@@ -99,7 +99,7 @@ run_move =
     (started, None, None, (begun, None, None, (refl, refl), start_turn, refl), compute_turn, refl)
 
 -- the moves
-compute_reached : AreMoves one_page input_program computed_past computed []
+pub compute_reached : AreMoves one_page input_program computed_past computed []
 compute_reached = (begun, [], None, begin_reached, run_move, refl)
 
 -- some machine has cached a translation, and completed an instruction
