@@ -15,3 +15,5 @@ pub mod AskedMachine
 pub mod FetchedMachine
 pub mod BrokenMachine
 pub mod CalledMachine
+pub mod ReturnedMachine
+pub mod TrappedMachine

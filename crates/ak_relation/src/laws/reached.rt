@@ -1,6 +1,6 @@
 // Laws that the relation is reached: computed machines of an example.
-ghost use Rattle.ak_core.specs.declared.event.Event.TheVariants.{Break, Call, Miss};
-ghost use Rattle.ak_relation.specs.Relation.Example.{IsReached, built_past, computed_past, entered_past, interrupted_past, missed_past, asked_past, ready_past, broken_past, called_past, resumed_past, written_past};
+ghost use Rattle.ak_core.specs.declared.event.Event.TheVariants.{Break, Call, Miss, Trap};
+ghost use Rattle.ak_relation.specs.Relation.Example.{IsReached, built_past, computed_past, entered_past, interrupted_past, missed_past, asked_past, ready_past, broken_past, called_past, returned_past, trapped_past, resumed_past, written_past};
 ghost use Rattle.std.specs.Prelude.{[], ◌∷◌};
 
 /// An enclave of one page. Some machine is that of its build; one has entered it; one was interrupted there, and has a saved frame; one has
@@ -19,4 +19,6 @@ pub fn example_moments_are_reached()
     ensures ready { IsReached ready_past (Miss 0 0 ∷ []) }
     ensures broken { IsReached broken_past (Miss 0 0 ∷ Break 0 ∷ []) }
     ensures called { IsReached called_past (Call 3 2 0 ∷ []) }
+    ensures returned { IsReached returned_past (Call 3 2 0 ∷ []) }
+    ensures trapped { IsReached trapped_past (Call 3 2 0 ∷ Trap 4 6 ∷ []) }
 {}
