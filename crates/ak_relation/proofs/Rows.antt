@@ -17,3 +17,4 @@ pub mod BrokenMachine
 pub mod CalledMachine
 pub mod ReturnedMachine
 pub mod TrappedMachine
+pub mod RareMoments

@@ -1,6 +1,8 @@
 // Laws that the relation is reached: computed machines of an example.
 ghost use Rattle.ak_core.specs.declared.event.Event.TheVariants.{Break, Call, Miss, Trap};
 ghost use Rattle.ak_relation.specs.Relation.Example.{IsReached, built_past, computed_past, entered_past, interrupted_past, missed_past, asked_past, ready_past, broken_past, called_past, returned_past, trapped_past, resumed_past, written_past};
+ghost use Rattle.ak_relation.specs.Relation.Example.{input_program, one_page};
+ghost use Rattle.ak_relation.specs.Relation.Witnesses.{IsWitness, ShowsAsking, ShowsBreak, ShowsValue};
 ghost use Rattle.std.specs.Prelude.{[], ◌∷◌};
 
 /// An enclave of one page. Some machine is that of its build; one has entered it; one was interrupted there, and has a saved frame; one has
@@ -21,4 +23,13 @@ pub fn example_moments_are_reached()
     ensures called { IsReached called_past (Call 3 2 0 ∷ []) }
     ensures returned { IsReached returned_past (Call 3 2 0 ∷ []) }
     ensures trapped { IsReached trapped_past (Call 3 2 0 ∷ Trap 4 6 ∷ []) }
+{}
+
+/// Three parts of the relation say nothing at most moments. Of the same enclave, some machine stands at a moment at which a saved
+/// context broke, and its area names an access that forced the break; some at one at which a cluster is asked for, and STATE keeps the
+/// program's frame; and some at one at which the kernel's value was returned to the program, whose flat run has it in RAX.
+pub fn rare_moments_stand()
+    ensures broken { IsWitness one_page input_program broken_past (Miss 0 0 ∷ Break 0 ∷ []) (ShowsBreak one_page input_program) }
+    ensures asked { IsWitness one_page input_program asked_past (Miss 0 0 ∷ []) (ShowsAsking one_page input_program 0) }
+    ensures returned { IsWitness one_page input_program returned_past (Call 3 2 0 ∷ []) (ShowsValue one_page input_program 0 9) }
 {}
