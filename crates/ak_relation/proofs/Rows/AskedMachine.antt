@@ -29,10 +29,10 @@ use Rattle.ak_relation.proofs.Runs.WholeRuns.{exit_moves}
 use Rattle.ak_relation.proofs.Rows.BlankPages.{one_saved, one_saved_whole, one_saved_at, none_refused, one_refused, refused_saved, slot_number, same_kept, area_with, area_whole, area_has}
 use Rattle.ak_relation.proofs.Rows.BuiltMachine.{page_valid}
 use Rattle.ak_relation.proofs.Rows.StartedMachine.{first_regs}
-use Rattle.ak_relation.proofs.Rows.MissedMachine.{fetch, program_frame, frame_size, missed, missed_whole, miss_reached}
+use Rattle.ak_relation.proofs.Rows.MissedMachine.{program_frame, frame_size, missed, missed_whole, miss_reached}
 use Rattle.ak_relation.proofs.Rows.StatePages.{state_with, state_whole, state_frame, state_phase, state_more, state_size, no_clusters}
 use Rattle.ak_relation.proofs.Rows.StepContexts.{phase_running, no_queue, entry_context}
-use Rattle.ak_relation.proofs.Rows.StepMemory.{Written, at_place, over, over_whole, holds_of, bytes_of, in_frames, Changes, Steps, step_turn, left_with, entered_with, entered_move}
+use Rattle.ak_relation.proofs.Rows.StepMemory.{later_areas, state_and_area, Written, at_place, over, over_whole, holds_of, bytes_of, in_frames, Changes, Steps, step_turn, left_with, entered_with, entered_move}
 
 -- ---- The entering
 
@@ -126,19 +126,6 @@ guards : (i : ℕ) → i < 1 → HasFrame one_page area_place (after (ssa_page o
 guards zero lt = area_has guard_bytes guard_size
 guards (suc i) lt = absurd (omega arith)
 
-other_areas : (i : ℕ) → i < 3 → (i < 1 → ⊥) → after (ssa_page one_page i) ≡ before (ssa_page one_page i)
-other_areas zero lt out = absurd (out (omega arith))
-other_areas (suc zero) lt out = refl
-other_areas (suc (suc zero)) lt out = refl
-other_areas (suc (suc (suc i))) lt out = absurd (omega arith)
-
-other_pages : (p : ℕ) → p ≢ 5 → ((i : ℕ) → i < 3 → p ≢ ssa_page one_page i) → after p ≡ before p
-other_pages p apart areas =
-    let no_state : (p == 5) ≡ false = grind (arith, nat_tests, apart) in
-    let out : p ≢ 2 = areas 0 (omega arith) in
-    let no_area : (p == 2) ≡ false = grind (arith, nat_tests, out) in
-    rw (no_state, no_area) refl
-
 module _ (control : Control) (flat : Flat) (may : MayStep one_page control (Enter 1 7) flat (entry_regs one_page 1 7) (memory_of (holds_of held_pages) before)) where
   running : control.phase ≡ Running
   running = let state = may.state in phase_running control.phase (sym slot_number ∙ state.phase_is)
@@ -156,8 +143,8 @@ module _ (control : Control) (flat : Flat) (may : MayStep one_page control (Ente
       clusters = no_clusters (state_with 3 0 program_bytes);
       frame_is = state_frame 3 0 program_bytes frame_size ∙ sym (area_has program_bytes frame_size);
     };
-    areas = (guards, other_areas);
-    others = other_pages;
+    areas = (guards, later_areas (state_with 3 0 program_bytes) (area_with guard_bytes) before);
+    others = state_and_area (state_with 3 0 program_bytes) (area_with guard_bytes) before;
   }
 
   performs : (kept saved : SavedFrame) → ReadsSaved one_page before (Enter 1 7) saved →

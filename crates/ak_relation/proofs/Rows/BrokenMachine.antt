@@ -27,8 +27,8 @@ use Rattle.ak_relation.proofs.Entering.LoadedRegisters.{area_back}
 use Rattle.ak_relation.proofs.Runs.WholeRuns.{exit_moves}
 use Rattle.ak_relation.proofs.Rows.BlankPages.{blank, blank_at, blank_whole, one_saved, one_saved_at, area_with, area_has, one_refused, one_refused_whole, refused_saved, refused_flag}
 use Rattle.ak_relation.proofs.Rows.BuiltMachine.{page_valid}
-use Rattle.ak_relation.proofs.Rows.StartedMachine.{starting}
-use Rattle.ak_relation.proofs.Rows.MissedMachine.{fetch, first_fetch, frame_size}
+use Rattle.ak_relation.proofs.Rows.StartedMachine.{fetch, starting}
+use Rattle.ak_relation.proofs.Rows.MissedMachine.{first_fetch, frame_size}
 use Rattle.ak_relation.proofs.Rows.AskedMachine.{first_words}
 use Rattle.ak_relation.proofs.Rows.FetchedMachine.{cleared_frame, cleared_bytes, cleared_size, ready, ready_whole, ready_moves}
 use Rattle.ak_relation.proofs.Rows.StepMemory.{at_place, over, over_whole, saved_with, saves_with}
@@ -93,7 +93,7 @@ broken = saved_with lost (ByPage fetch) one_refused
 
 saves : Saves one_page 0 0 true (ByPage fetch) lost broken
 saves =
-    saves_with lost 0 true (ByPage fetch) one_refused refl (omega arith) refl (record { saved_is = refused_saved; pending_is = refused_flag }) one_refused_whole frame_size
+    saves_with lost 0 true (ByPage fetch) one_refused (0 ∷ []) refl (omega arith) refl (record { saved_is = refused_saved; pending_is = refused_flag }) one_refused_whole frame_size
     continued_whole refl
 
 faults : (flat : Flat) → Sees one_page lost 0 flat → Faults one_page lost [] flat fetch

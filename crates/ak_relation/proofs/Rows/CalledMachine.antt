@@ -35,12 +35,11 @@ use Rattle.ak_relation.proofs.Program.CallMoves.{call_turns}
 use Rattle.ak_relation.proofs.Runs.WholeRuns.{exit_moves}
 use Rattle.ak_relation.proofs.Rows.BlankPages.{one_slot, same_kept}
 use Rattle.ak_relation.proofs.Rows.BuiltMachine.{page_valid}
-use Rattle.ak_relation.proofs.Rows.StartedMachine.{started_whole}
+use Rattle.ak_relation.proofs.Rows.StartedMachine.{fetch, started_whole}
 use Rattle.ak_relation.proofs.Rows.ComputedMachine.{next_regs, cached, computed, compute_reached}
-use Rattle.ak_relation.proofs.Rows.MissedMachine.{fetch}
 use Rattle.ak_relation.proofs.Rows.StatePages.{state_with, state_whole, state_frame, state_phase, state_size, no_clusters}
 use Rattle.ak_relation.proofs.Rows.StepContexts.{no_queue, leave_context}
-use Rattle.ak_relation.proofs.Rows.StepMemory.{Written, at_place, over, over_whole, holds_of, bytes_of, in_frames, Changes, Steps, step_turn, left_with}
+use Rattle.ak_relation.proofs.Rows.StepMemory.{all_areas, state_alone, Written, at_place, over, over_whole, holds_of, bytes_of, in_frames, Changes, Steps, step_turn, left_with}
 
 -- ---- The instructions
 
@@ -232,15 +231,6 @@ before = bytes_of leaving
 abbrev after : ℕ → List ℕ
 after = over called_written before
 
-other_areas : (i : ℕ) → i < 3 → after (ssa_page one_page i) ≡ before (ssa_page one_page i)
-other_areas zero lt = refl
-other_areas (suc zero) lt = refl
-other_areas (suc (suc zero)) lt = refl
-other_areas (suc (suc (suc i))) lt = absurd (omega arith)
-
-other_pages : (p : ℕ) → p ≢ 5 → after p ≡ before p
-other_pages p apart = let no_state : (p == 5) ≡ false = grind (arith, nat_tests, apart) in rw no_state refl
-
 module _ (control : Control) (none_in : control.queue ≡ []) where
   leaves : (kept saved : SavedFrame) → Performs one_page (leave_row one_page (reads_of one_page control.phase [] before kept saved) leaving_regs 2 0) before after (Left (Exit.Call 2 0)) leaving_regs
   leaves kept saved = record {
@@ -252,8 +242,8 @@ module _ (control : Control) (none_in : control.queue ≡ []) where
       clusters = no_clusters (state_with 2 0 kept_frame_bytes);
       frame_is = state_frame 2 0 kept_frame_bytes kept_size;
     };
-    areas = other_areas;
-    others = λ p apart areas. other_pages p apart;
+    areas = all_areas (state_with 2 0 kept_frame_bytes) before;
+    others = λ p apart areas. state_alone (state_with 2 0 kept_frame_bytes) before p apart;
   }
 
   leave_step : StepsTo one_page control (Leave 2 0) leaving_regs before after granted None (Left (Exit.Call 2 0)) leaving_regs

@@ -21,17 +21,13 @@ use Rattle.ak_relation.proofs.Program.ComputedTurns.{computed_turns}
 use Rattle.ak_relation.proofs.Runs.WholeRuns.{still_moves}
 use Rattle.ak_relation.proofs.Rows.BuiltMachine.{page_valid, outside}
 use Rattle.ak_relation.proofs.Rows.ProgramMachine.{begun, begin_reached}
-use Rattle.ak_relation.proofs.Rows.StartedMachine.{first_regs, starting, started, started_whole, start_turn}
+use Rattle.ak_relation.proofs.Rows.StartedMachine.{fetch, first_regs, starting, started, started_whole, start_turn}
 
 -- ---- The instruction
 
 -- the registers after it
 abbrev pub next_regs : Regs
 next_regs = record first_regs { rip = one_page.base + 1 }
-
--- the fetch
-abbrev fetch : Access
-fetch = access_to 0 Exec
 
 -- what the page's first byte says
 decoded : (flat : Flat) → flat.regs ≡ first_regs → in_first_page one_page flat 0 (decode (drop 0 input_program)) ≡ line_of (fetch ∷ []) (End.Next (record flat { regs = next_regs }))

@@ -35,7 +35,7 @@ use Rattle.ak_relation.proofs.Rows.MissedMachine.{program_frame, frame_size}
 use Rattle.ak_relation.proofs.Rows.AskedMachine.{program_bytes, asked, asked_whole, first_words, ask_reached}
 use Rattle.ak_relation.proofs.Rows.StatePages.{state_with, state_whole, state_frame, state_phase, state_more, state_size, one_cluster}
 use Rattle.ak_relation.proofs.Rows.StepContexts.{phase_asked, no_queue, step_regs, entry_context, probe_context, finish_context, same_regs}
-use Rattle.ak_relation.proofs.Rows.StepMemory.{Written, at_place, over, over_whole, holds_of, bytes_of, in_frames, Changes, Steps, step_turn, left_with, gone_with, entered_with, entered_move}
+use Rattle.ak_relation.proofs.Rows.StepMemory.{later_areas, state_and_area, Written, at_place, over, over_whole, holds_of, bytes_of, in_frames, Changes, Steps, step_turn, left_with, gone_with, entered_with, entered_move}
 
 -- ---- The page table, and the entering
 
@@ -218,19 +218,6 @@ before = bytes_of second
 abbrev after : ℕ → List ℕ
 after = over ready_written before
 
-other_areas : (i : ℕ) → i < 3 → (i < 1 → ⊥) → after (ssa_page one_page i) ≡ before (ssa_page one_page i)
-other_areas zero lt out = absurd (out (omega arith))
-other_areas (suc zero) lt out = refl
-other_areas (suc (suc zero)) lt out = refl
-other_areas (suc (suc (suc i))) lt out = absurd (omega arith)
-
-other_pages : (p : ℕ) → p ≢ 5 → ((i : ℕ) → i < 3 → p ≢ ssa_page one_page i) → after p ≡ before p
-other_pages p apart areas =
-    let no_state : (p == 5) ≡ false = grind (arith, nat_tests, apart) in
-    let out : p ≢ 2 = areas 0 (omega arith) in
-    let no_area : (p == 2) ≡ false = grind (arith, nat_tests, out) in
-    rw (no_state, no_area) refl
-
 module _ (control : Control) (flat : Flat) (is : control.phase ≡ Asked 0) (none_in : control.queue ≡ []) where
   finishes : (kept saved : SavedFrame) → Performs one_page (finish_row (reads_of one_page (Asked 0) [] before (record kept { regs = first_regs }) saved) (Asked 0)) before after (Left Exit.Ready) first_regs
   finishes kept saved = record {
@@ -242,8 +229,8 @@ module _ (control : Control) (flat : Flat) (is : control.phase ≡ Asked 0) (non
       clusters = one_cluster 1 1 program_bytes;
       frame_is = state_frame 1 1 program_bytes frame_size ∙ sym (state_frame 3 0 program_bytes frame_size);
     };
-    areas = (area_has cleared_bytes cleared_size, other_areas);
-    others = other_pages;
+    areas = (area_has cleared_bytes cleared_size, later_areas (state_with 1 1 program_bytes) (area_with cleared_bytes) before);
+    others = state_and_area (state_with 1 1 program_bytes) (area_with cleared_bytes) before;
   }
 
   finish_performs : (kept saved : SavedFrame) → ReadsKept one_page control.phase asked_state kept →

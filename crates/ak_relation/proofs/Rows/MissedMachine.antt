@@ -31,14 +31,11 @@ use Rattle.ak_relation.proofs.Leaves.DoneMoves.{set_pte_moves}
 use Rattle.ak_relation.proofs.Runs.WholeRuns.{still_moves, exit_moves}
 use Rattle.ak_relation.proofs.Rows.BlankPages.{area_with, area_whole, area_has, one_refused, one_refused_whole, refused_saved, refused_flag}
 use Rattle.ak_relation.proofs.Rows.BuiltMachine.{page_valid, outside}
+use Rattle.ak_relation.proofs.Rows.StepMemory.{saved_with, saved_whole, saves_with}
 use Rattle.ak_relation.proofs.Rows.ProgramMachine.{begun, begin_reached}
-use Rattle.ak_relation.proofs.Rows.StartedMachine.{first_regs, starting, started, started_whole, start_turn}
+use Rattle.ak_relation.proofs.Rows.StartedMachine.{fetch, first_regs, starting, started, started_whole, start_turn}
 
 -- ---- The first access of any instruction
-
--- the fetch
-abbrev pub fetch : Access
-fetch = access_to 0 Exec
 
 -- it stands first in the line
 abbrev IsFirst : Line → Type 0
@@ -87,45 +84,17 @@ pub frame_size : length (frame_bytes one_page program_frame) ≡ 200
 unfolding frame_bytes
 frame_size = refl
 
--- the bytes of each frame
-abbrev missed_frames : ℕ → List ℕ
-missed_frames f = if f == 2 then one_refused else (if f == 3 then area_with (frame_bytes one_page program_frame) else started.frames f)
-
-pub missed_whole : (f : ℕ) → length (missed_frames f) ≡ 4096
-missed_whole f = by (f == 2) (f == 3)
-  where
-    by : (a b : Bool) → length (if a then one_refused else (if b then area_with (frame_bytes one_page program_frame) else started.frames f)) ≡ 4096
-    by true b = one_refused_whole
-    by false true = area_whole (frame_bytes one_page program_frame) frame_size
-    by false false = started_whole f
-
-same_frames : (g : ℕ) → (g == 2) ≡ false → (g == 3) ≡ false → missed_frames g ≡ started.frames g
-same_frames g no_tcs no_area = rw (no_tcs, no_area) refl
-
 -- the machine: the cluster that was missed is in its queue
 abbrev pub missed : State
-missed = record hidden { frames = missed_frames; processors = λ lp. outside; track = LeavesBy 0 ∷ EntersBy 0 ∷ []; queue = 0 ∷ [] }
+missed = record (saved_with hidden (ByPage fetch) one_refused) { queue = 0 ∷ [] }
+
+pub missed_whole : (f : ℕ) → length (missed.frames f) ≡ 4096
+missed_whole = saved_whole hidden (ByPage fetch) one_refused one_refused_whole frame_size started_whole
 
 saves : Saves one_page 0 0 true (ByPage fetch) hidden missed
-saves = record {
-  area = area_has (frame_bytes one_page program_frame) frame_size;
-  words = λ mode. absurd (cc);
-  fits = omega arith;
-  tcs = record { saved_is = refused_saved; pending_is = refused_flag };
-  frames = same_frames;
-  whole = missed_whole;
-  left = refl;
-  flushed = refl;
-  others = λ q e. sym (ap (λ b. if b then starting else outside) e);
-  track = refl;
-  entries = refl;
-  count = refl;
-  queue = refl;
-  stamps = refl;
-  sealed_pages = refl;
-  next = refl;
-  table = refl;
-}
+saves =
+    saves_with hidden 0 true (ByPage fetch) one_refused (0 ∷ []) refl (omega arith) refl (record { saved_is = refused_saved; pending_is = refused_flag })
+    one_refused_whole frame_size started_whole refl
 
 faults : (flat : Flat) → Sees one_page hidden 0 flat → Faults one_page hidden [] flat fetch
 faults flat seen = record {

@@ -30,7 +30,7 @@ use Rattle.ak_relation.proofs.Rows.BuiltMachine.{page_valid}
 use Rattle.ak_relation.proofs.Rows.CalledMachine.{after_regs, kept_frame, kept_frame_bytes, kept_size, called, called_whole, call_reached}
 use Rattle.ak_relation.proofs.Rows.StatePages.{state_with, state_whole, state_frame, state_phase, state_size, no_clusters}
 use Rattle.ak_relation.proofs.Rows.StepContexts.{phase_calling, no_queue, entry_context, same_regs}
-use Rattle.ak_relation.proofs.Rows.StepMemory.{Written, at_place, over, over_whole, holds_of, bytes_of, in_frames, Changes, Steps, step_turn, gone_with, entered_with, entered_move}
+use Rattle.ak_relation.proofs.Rows.StepMemory.{all_areas, state_alone, Written, at_place, over, over_whole, holds_of, bytes_of, in_frames, Changes, Steps, step_turn, gone_with, entered_with, entered_move}
 
 -- ---- The entering
 
@@ -97,15 +97,6 @@ before = bytes_of answering
 abbrev after : ℕ → List ℕ
 after = over returned_written before
 
-other_areas : (i : ℕ) → i < 3 → after (ssa_page one_page i) ≡ before (ssa_page one_page i)
-other_areas zero lt = refl
-other_areas (suc zero) lt = refl
-other_areas (suc (suc zero)) lt = refl
-other_areas (suc (suc (suc i))) lt = absurd (omega arith)
-
-other_pages : (p : ℕ) → p ≢ 5 → after p ≡ before p
-other_pages p apart = let no_state : (p == 5) ≡ false = grind (arith, nat_tests, apart) in rw no_state refl
-
 kept_words : AreRegs kept_frame.regs
 kept_words =
     let zero : 0 < 2 ^ 64 = omega arith in
@@ -135,8 +126,8 @@ module _ (control : Control) (flat : Flat) (may : MayStep one_page control (Ente
       clusters = no_clusters (state_with 1 0 kept_frame_bytes);
       frame_is = state_frame 1 0 kept_frame_bytes kept_size ∙ sym (state_frame 2 0 kept_frame_bytes kept_size);
     };
-    areas = other_areas;
-    others = λ p apart areas. other_pages p apart;
+    areas = all_areas (state_with 1 0 kept_frame_bytes) before;
+    others = λ p apart areas. state_alone (state_with 1 0 kept_frame_bytes) before p apart;
   }
 
   performs : (kept saved : SavedFrame) → ReadsKept one_page control.phase calling_state kept →

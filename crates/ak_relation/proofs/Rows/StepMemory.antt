@@ -3,7 +3,7 @@
 use Rattle.std.proofs.Common.{◌≡◌, ℕ, zero, suc, ◌+◌, ◌<◌, List, [], ◌∷◌, length, refl, ap, sym, ◌∙◌, subst, arith}
 use Rattle.std.proofs.lemmas.Bool.{eqb-true}
 use Rattle.std.proofs.lemmas.Bool.Decides.{nat_tests}
-use Rattle.std.specs.Prelude.{Bool, true, false, ◌||◌, ◌^◌, None, ◌==◌, if◌then◌else◌}
+use Rattle.std.specs.Prelude.{◌≢◌, Bool, true, false, ◌||◌, ◌^◌, None, ◌==◌, if◌then◌else◌}
 use Rattle.ak_core.specs.Mem.{Access}
 use Rattle.ak_core.specs.declared.moves.Move.TheVariants.{Eenter}
 use Rattle.ak_core.specs.declared.moves.Answer.TheVariants.{Ok}
@@ -77,6 +77,32 @@ over_whole (w ∷ ws) before all old g = by (g == w.place) (over_whole ws before
     by : (b : Bool) → length (over ws before g) ≡ 4096 → length (if b then w.bytes else over ws before g) ≡ 4096
     by true other = all.0
     by false other = other
+
+-- new bytes of STATE alone: the areas and all other pages stay
+pub all_areas : (state : List ℕ) (before : ℕ → List ℕ) (i : ℕ) → i < 3 → over (at_place 5 state ∷ []) before (ssa_page one_page i) ≡ before (ssa_page one_page i)
+all_areas state before zero lt = refl
+all_areas state before (suc zero) lt = refl
+all_areas state before (suc (suc zero)) lt = refl
+all_areas state before (suc (suc (suc i))) lt = absurd (omega arith)
+
+pub state_alone : (state : List ℕ) (before : ℕ → List ℕ) (p : ℕ) → p ≢ 5 → over (at_place 5 state ∷ []) before p ≡ before p
+state_alone state before p apart = let no_state : (p == 5) ≡ false = grind (arith, nat_tests, apart) in rw no_state refl
+
+-- new bytes of STATE and of the first area
+pub later_areas : (state area : List ℕ) (before : ℕ → List ℕ) (i : ℕ) → i < 3 → (i < 1 → ⊥) →
+    over (at_place 5 state ∷ at_place 2 area ∷ []) before (ssa_page one_page i) ≡ before (ssa_page one_page i)
+later_areas state area before zero lt out = absurd (out (omega arith))
+later_areas state area before (suc zero) lt out = refl
+later_areas state area before (suc (suc zero)) lt out = refl
+later_areas state area before (suc (suc (suc i))) lt out = absurd (omega arith)
+
+pub state_and_area : (state area : List ℕ) (before : ℕ → List ℕ) (p : ℕ) → p ≢ 5 → ((i : ℕ) → i < 3 → p ≢ ssa_page one_page i) →
+    over (at_place 5 state ∷ at_place 2 area ∷ []) before p ≡ before p
+state_and_area state area before p apart areas =
+    let no_state : (p == 5) ≡ false = grind (arith, nat_tests, apart) in
+    let out : p ≢ 2 = areas 0 (omega arith) in
+    let no_area : (p == 2) ≡ false = grind (arith, nat_tests, out) in
+    rw (no_state, no_area) refl
 
 -- ---- The pages of a memory
 
@@ -279,11 +305,18 @@ saved_with old cause tcs = record old {
   track = LeavesBy 0 ∷ old.track;
 }
 
-pub saves_with : (old : State) (saved : ℕ) (pending : Bool) (cause : SavedCause) (tcs : List ℕ) → (old.processors 0).regs.mode ≡ Mode.Program → CauseFits one_page cause →
+pub saved_whole : (old : State) (cause : SavedCause) (tcs : List ℕ) → length tcs ≡ 4096 → length (saved_bytes old cause) ≡ 200 → ((g : ℕ) → length (old.frames g) ≡ 4096) →
+    (g : ℕ) → length ((saved_with old cause tcs).frames g) ≡ 4096
+saved_whole old cause tcs whole size all =
+    over_whole (at_place (old.processors 0).tcs tcs ∷ at_place (old.processors 0).ssa (area_with (saved_bytes old cause)) ∷ []) old.frames
+    (whole, (area_whole (saved_bytes old cause) size, tt)) all
+
+-- with this queue after it
+pub saves_with : (old : State) (saved : ℕ) (pending : Bool) (cause : SavedCause) (tcs queue : List ℕ) → (old.processors 0).regs.mode ≡ Mode.Program → CauseFits one_page cause →
     ((old.processors 0).ssa == (old.processors 0).tcs) ≡ false → IsTcs (saved + 1) pending tcs → length tcs ≡ 4096 → length (saved_bytes old cause) ≡ 200 →
-    ((g : ℕ) → length (old.frames g) ≡ 4096) → old.queue ≡ after_miss_if one_page old.queue (missed_in one_page old.queue cause (old.processors 0).regs.mode) →
-    Saves one_page 0 saved pending cause old (saved_with old cause tcs)
-saves_with old saved pending cause tcs mode fits apart is whole size all queue = record {
+    ((g : ℕ) → length (old.frames g) ≡ 4096) → queue ≡ after_miss_if one_page old.queue (missed_in one_page old.queue cause (old.processors 0).regs.mode) →
+    Saves one_page 0 saved pending cause old (record (saved_with old cause tcs) { queue = queue })
+saves_with old saved pending cause tcs queue mode fits apart is whole size all queue_is = record {
   area = subst (λ b. HasFrame one_page area_place (if b then tcs else (if (old.processors 0).ssa == (old.processors 0).ssa then area_with (saved_bytes old cause) else old.frames (old.processors 0).ssa)) (record { regs = (old.processors 0).regs; cause = cause })) (sym apart)
       (subst (λ b. HasFrame one_page area_place (if b then area_with (saved_bytes old cause) else old.frames (old.processors 0).ssa) (record { regs = (old.processors 0).regs; cause = cause })) (sym (equal (old.processors 0).ssa))
       (area_has (saved_bytes old cause) size));
@@ -291,14 +324,14 @@ saves_with old saved pending cause tcs mode fits apart is whole size all queue =
   fits = fits;
   tcs = subst (λ b. IsTcs (saved + 1) pending (if b then tcs else over (at_place (old.processors 0).ssa (area_with (saved_bytes old cause)) ∷ []) old.frames (old.processors 0).tcs)) (sym (equal (old.processors 0).tcs)) is;
   frames = λ g no_tcs no_area. rw (no_tcs, no_area) refl;
-  whole = over_whole (at_place (old.processors 0).tcs tcs ∷ at_place (old.processors 0).ssa (area_with (saved_bytes old cause)) ∷ []) old.frames (whole, (area_whole (saved_bytes old cause) size, tt)) all;
+  whole = saved_whole old cause tcs whole size all;
   left = refl;
   flushed = refl;
   others = λ q e. rw e refl;
   track = refl;
   entries = refl;
   count = refl;
-  queue = queue;
+  queue = queue_is;
   stamps = refl;
   sealed_pages = refl;
   next = refl;

@@ -24,7 +24,7 @@ use Rattle.ak_relation.proofs.Exits.ExitTurns.{vector_turns}
 use Rattle.ak_relation.proofs.Runs.WholeRuns.{exit_moves}
 use Rattle.ak_relation.proofs.Rows.BlankPages.{one_refused, one_refused_whole, refused_saved, refused_flag}
 use Rattle.ak_relation.proofs.Rows.BuiltMachine.{page_valid}
-use Rattle.ak_relation.proofs.Rows.MissedMachine.{fetch}
+use Rattle.ak_relation.proofs.Rows.StartedMachine.{fetch}
 use Rattle.ak_relation.proofs.Rows.ReturnedMachine.{returned_regs, returned, returned_whole, return_reached}
 use Rattle.ak_relation.proofs.Rows.StepMemory.{saved_bytes, saved_with, saves_with}
 use Rattle.std.proofs.Common.{length}
@@ -62,7 +62,7 @@ frame_size = refl
 
 saves : Saves one_page 0 0 true (ByVector 6) returned trapped
 saves =
-    saves_with returned 0 true (ByVector 6) one_refused refl (omega arith) refl (record { saved_is = refused_saved; pending_is = refused_flag }) one_refused_whole frame_size
+    saves_with returned 0 true (ByVector 6) one_refused [] refl (omega arith) refl (record { saved_is = refused_saved; pending_is = refused_flag }) one_refused_whole frame_size
     returned_whole refl
 
 other_vector : ◌≢◌ {A = ℕ} 6 14
