@@ -1,7 +1,6 @@
 -- The machine of the example after the processor entered again, and the runtime asked for the cluster that was missed.
-use Rattle.std.proofs.Common.{◌≡◌, ℕ, zero, suc, ◌+◌, ◌<◌, List, [], ◌∷◌, length, refl, ap, sym, ◌∙◌, subst, arith}
-use Rattle.std.proofs.lemmas.Bool.Decides.{nat_tests}
-use Rattle.std.specs.Prelude.{◌≢◌, ◌^◌, false, None, Some, ◌==◌}
+use Rattle.std.proofs.Common.{◌≡◌, ℕ, zero, suc, ◌<◌, List, [], ◌∷◌, length, refl, sym, ◌∙◌, subst, arith}
+use Rattle.std.specs.Prelude.{◌^◌, None, Some}
 use Rattle.ak_core.specs.Mem.{Access, access_to}
 use Rattle.ak_core.specs.declared.event.Event.TheVariants.{Miss}
 use Rattle.ak_core.specs.declared.page.Kind.TheVariants.{Write, Exec}
@@ -9,7 +8,6 @@ use Rattle.ak_core.specs.declared.moves.Move.TheVariants.{Run, Eenter}
 use Rattle.ak_core.specs.declared.moves.Answer.{Answer}
 use Rattle.ak_core.specs.declared.moves.Answer.TheVariants.{Ok}
 use Rattle.ak_core.specs.declared.moves.Exit.{Exit}
-use Rattle.ak_core.specs.declared.registers.Regs.{Regs}
 use Rattle.ak_model.specs.Paging.Pages.{ssa_page}
 use Rattle.ak_model.specs.Flat.FlatRuns.{Flat}
 use Rattle.ak_model.specs.Control.ControlState.{Running, Context, Enter, Control}
@@ -151,7 +149,7 @@ module _ (control : Control) (flat : Flat) (may : MayStep one_page control (Ente
       Performs one_page (entry_row one_page (reads_of one_page control.phase control.queue before kept saved) 1 7 control.phase) before after (Left (Exit.Ask 0 0)) first_regs
   performs kept saved reads =
       let same : program_frame ≡ saved =
-          same_frame one_page room area_place (area_with program_bytes) program_frame saved program_fits reads.1 (area_has program_bytes frame_size) reads.0 in
+      same_frame one_page room area_place (area_with program_bytes) program_frame saved program_fits reads.1 (area_has program_bytes frame_size) reads.0 in
       subst (λ phase. Performs one_page (entry_row one_page (reads_of one_page phase control.queue before kept saved) 1 7 phase) before after (Left (Exit.Ask 0 0)) first_regs) (sym running)
       (subst (λ queue. Performs one_page (entry_row one_page (reads_of one_page Running queue before kept saved) 1 7 Running) before after (Left (Exit.Ask 0 0)) first_regs) (sym empty)
       (subst (λ frame. Performs one_page (entry_row one_page (reads_of one_page Running [] before kept frame) 1 7 Running) before after (Left (Exit.Ask 0 0)) first_regs) same asks))

@@ -1,5 +1,5 @@
 -- The machine of the example after the program was resumed, and broke: its page is not mapped, though its cluster is in.
-use Rattle.std.proofs.Common.{◌≡◌, ℕ, ◌-◌, List, [], ◌∷◌, length, refl, sym, subst, arith}
+use Rattle.std.proofs.Common.{◌≡◌, ℕ, ◌-◌, [], ◌∷◌, length, refl, sym, subst, arith}
 use Rattle.std.specs.Prelude.{true, None, Some, ◌==◌, if◌then◌else◌}
 use Rattle.ak_core.specs.declared.event.Event.TheVariants.{Miss, Break}
 use Rattle.ak_core.specs.declared.moves.Move.TheVariants.{Run, SetPte, Eresume}

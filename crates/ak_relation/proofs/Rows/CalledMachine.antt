@@ -1,8 +1,7 @@
 -- The machine of the example after the program called out: two instructions that set registers, the call, and the runtime's step that
 -- leaves with it.
-use Rattle.std.proofs.Common.{◌≡◌, ℕ, zero, suc, ◌+◌, ◌<◌, List, [], ◌∷◌, length, drop, refl, ap, sym, ◌∙◌, subst, arith}
-use Rattle.std.proofs.lemmas.Bool.Decides.{nat_tests}
-use Rattle.std.specs.Prelude.{◌≢◌, ◌^◌, Bool, true, false, ◌||◌, None, Some, ◌==◌, if◌then◌else◌}
+use Rattle.std.proofs.Common.{◌≡◌, ℕ, ◌+◌, List, [], ◌∷◌, length, drop, refl, ap, sym, ◌∙◌, subst, arith}
+use Rattle.std.specs.Prelude.{Bool, true, false, ◌||◌, None, Some, ◌==◌, if◌then◌else◌}
 use Rattle.ak_core.specs.Mem.{Access, access_to}
 use Rattle.ak_core.specs.declared.event.Event.TheVariants.{Call}
 use Rattle.ak_core.specs.declared.page.Kind.TheVariants.{Write, Exec}
@@ -11,7 +10,6 @@ use Rattle.ak_core.specs.declared.moves.Answer.{Answer}
 use Rattle.ak_core.specs.declared.moves.Exit.{Exit}
 use Rattle.ak_core.specs.declared.registers.Mode.{Mode}
 use Rattle.ak_core.specs.declared.registers.Regs.{Regs}
-use Rattle.ak_model.specs.Paging.Pages.{ssa_page}
 use Rattle.ak_model.specs.Flat.Encodings.{decode}
 use Rattle.ak_model.specs.Flat.Instructions.{with_reg, rax, rcx, rdi}
 use Rattle.ak_model.specs.Flat.FlatRuns.{Flat, End, line_of, in_first_page, line, end_of, page_bytes}
@@ -39,7 +37,7 @@ use Rattle.ak_relation.proofs.Rows.StartedMachine.{fetch, started_whole}
 use Rattle.ak_relation.proofs.Rows.ComputedMachine.{next_regs, cached, computed, compute_reached}
 use Rattle.ak_relation.proofs.Rows.StatePages.{state_with, state_whole, state_frame, state_phase, state_size, no_clusters}
 use Rattle.ak_relation.proofs.Rows.StepContexts.{no_queue, leave_context}
-use Rattle.ak_relation.proofs.Rows.StepMemory.{all_areas, state_alone, Written, at_place, over, over_whole, holds_of, bytes_of, in_frames, Changes, Steps, step_turn, left_with}
+use Rattle.ak_relation.proofs.Rows.StepMemory.{all_areas, state_alone, Written, at_place, over, over_whole, bytes_of, in_frames, Changes, Steps, step_turn, left_with}
 
 -- ---- The instructions
 

@@ -1,7 +1,6 @@
 -- The machine of the example after the program completed an instruction: a run of two turns, with a cached translation.
 use Rattle.std.proofs.Common.{◌≡◌, ◌+◌, [], ◌∷◌, drop, refl, ap, sym, ◌∙◌, arith}
 use Rattle.std.specs.Prelude.{Bool, true, false, ◌||◌, None, ◌==◌, if◌then◌else◌}
-use Rattle.ak_core.specs.Mem.{Access, access_to}
 use Rattle.ak_core.specs.declared.page.Kind.TheVariants.{Exec}
 use Rattle.ak_core.specs.declared.moves.Move.TheVariants.{Run}
 use Rattle.ak_core.specs.declared.moves.Answer.{Answer}

@@ -1,7 +1,6 @@
 -- The machine of the example after the kernel mapped the page that was asked for, and the runtime found it: three turns.
-use Rattle.std.proofs.Common.{◌≡◌, ℕ, zero, suc, ◌+◌, ◌<◌, List, [], ◌∷◌, ◌++◌, length, refl, ap, sym, ◌∙◌, subst, arith}
-use Rattle.std.proofs.lemmas.Bool.Decides.{nat_tests}
-use Rattle.std.specs.Prelude.{◌≢◌, false, None, Some, ◌==◌}
+use Rattle.std.proofs.Common.{◌≡◌, ℕ, List, [], ◌∷◌, length, refl, ap, sym, ◌∙◌, subst, arith}
+use Rattle.std.specs.Prelude.{None, Some}
 use Rattle.ak_core.specs.Mem.{Access, access_to}
 use Rattle.ak_core.specs.declared.event.Event.TheVariants.{Miss}
 use Rattle.ak_core.specs.declared.page.Kind.TheVariants.{Write, Exec}
@@ -11,18 +10,18 @@ use Rattle.ak_core.specs.declared.moves.Answer.{Answer}
 use Rattle.ak_core.specs.declared.moves.Answer.TheVariants.{Ok}
 use Rattle.ak_core.specs.declared.moves.Exit.{Exit}
 use Rattle.ak_core.specs.declared.registers.Regs.{Regs}
-use Rattle.ak_model.specs.Paging.Pages.{flags_for, ssa_page}
+use Rattle.ak_model.specs.Paging.Pages.{flags_for}
 use Rattle.ak_model.specs.Flat.FlatRuns.{Flat}
 use Rattle.ak_model.specs.Control.ControlState.{Phase, Asked, Context, Enter, Probe, Finish, Control}
 use Rattle.ak_model.specs.Control.RuntimeTurn.{probed}
-use Rattle.ak_relation.specs.Bytes.SavedFrames.{NoCause, SavedFrame, frame_bytes, state_place}
+use Rattle.ak_relation.specs.Bytes.SavedFrames.{NoCause, SavedFrame, frame_bytes}
 use Rattle.ak_relation.specs.Bytes.Contexts.{entry_regs}
 use Rattle.ak_relation.specs.Bytes.Pages.{IsState}
 use Rattle.ak_relation.specs.State.MachineState.{State}
 use Rattle.ak_relation.specs.State.TableChanges.{with_mapping}
 use Rattle.ak_relation.specs.Premises.EnterRows.{enter_row}
 use Rattle.ak_relation.specs.Premises.Rows.{entry_row, finish_row}
-use Rattle.ak_relation.specs.Premises.StepsTo.{Outcome, Went, Left, Performs, ReadsKept, reads_of, MayStep, StepsTo, memory_of}
+use Rattle.ak_relation.specs.Premises.StepsTo.{Went, Left, Performs, ReadsKept, reads_of, MayStep, StepsTo, memory_of}
 use Rattle.ak_relation.specs.Relation.Does.{IsTurn, IsMove}
 use Rattle.ak_relation.specs.Relation.MoveByMove.{AreMoves}
 use Rattle.ak_relation.specs.Relation.Example.{one_page, input_program, restored_past, probing_past, ready_past, IsReached}

@@ -1,9 +1,7 @@
 -- The machine of the example after the program missed its page, which was not mapped any more: an event.
-use Rattle.std.proofs.Common.{◌≡◌, ℕ, ◌+◌, List, [], ◌∷◌, length, refl, ap, sym, ◌∙◌, arith}
-use Rattle.std.specs.Prelude.{Bool, true, false, Some, None, slice_get, ◌==◌, if◌then◌else◌}
-use Rattle.ak_core.specs.Mem.{Access, access_to}
+use Rattle.std.proofs.Common.{◌≡◌, ℕ, ◌+◌, [], ◌∷◌, length, refl, ap, sym, ◌∙◌, arith}
+use Rattle.std.specs.Prelude.{Bool, true, false, Some, None, slice_get, if◌then◌else◌}
 use Rattle.ak_core.specs.declared.event.Event.TheVariants.{Miss}
-use Rattle.ak_core.specs.declared.page.Kind.TheVariants.{Exec}
 use Rattle.ak_core.specs.declared.instruction.Decoded.{Decoded}
 use Rattle.ak_core.specs.declared.instruction.Decoded.TheVariants.{Whole, NeedMore, Illegal}
 use Rattle.ak_core.specs.declared.moves.Move.TheVariants.{Run, SetPte}
@@ -20,7 +18,6 @@ use Rattle.ak_relation.specs.Bytes.SavedFrames.{ByPage, SavedFrame, frame_bytes}
 use Rattle.ak_relation.specs.Program.Seeing.{Sees}
 use Rattle.ak_relation.specs.State.MachineState.{State}
 use Rattle.ak_relation.specs.State.TableChanges.{with_mapping}
-use Rattle.ak_relation.specs.State.TrackSteps.{EntersBy, LeavesBy}
 use Rattle.ak_relation.specs.Premises.Faulting.{Faults}
 use Rattle.ak_relation.specs.Premises.Saving.{Saves}
 use Rattle.ak_relation.specs.Relation.Does.{IsTurn, IsMove}
@@ -29,11 +26,11 @@ use Rattle.ak_relation.specs.Relation.Example.{one_page, input_program, started_
 use Rattle.ak_relation.proofs.Exits.ExitTurns.{miss_turns}
 use Rattle.ak_relation.proofs.Leaves.DoneMoves.{set_pte_moves}
 use Rattle.ak_relation.proofs.Runs.WholeRuns.{still_moves, exit_moves}
-use Rattle.ak_relation.proofs.Rows.BlankPages.{area_with, area_whole, area_has, one_refused, one_refused_whole, refused_saved, refused_flag}
-use Rattle.ak_relation.proofs.Rows.BuiltMachine.{page_valid, outside}
+use Rattle.ak_relation.proofs.Rows.BlankPages.{one_refused, one_refused_whole, refused_saved, refused_flag}
+use Rattle.ak_relation.proofs.Rows.BuiltMachine.{page_valid}
 use Rattle.ak_relation.proofs.Rows.StepMemory.{saved_with, saved_whole, saves_with}
 use Rattle.ak_relation.proofs.Rows.ProgramMachine.{begun, begin_reached}
-use Rattle.ak_relation.proofs.Rows.StartedMachine.{fetch, first_regs, starting, started, started_whole, start_turn}
+use Rattle.ak_relation.proofs.Rows.StartedMachine.{fetch, first_regs, started, started_whole, start_turn}
 
 -- ---- The first access of any instruction
 

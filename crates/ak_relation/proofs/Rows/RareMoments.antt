@@ -1,22 +1,20 @@
 -- Moments at which parts of the relation say something that are void at most others: the control state of each is that of the trace of
 -- its moves, and the rest is what the relation says there.
-use Rattle.std.proofs.Common.{◌≡◌, ℕ, List, [], ◌∷◌, ◌++◌, refl, ap, sym, ◌∙◌, subst}
-use Rattle.std.specs.Prelude.{Option, Some, None}
+use Rattle.std.proofs.Common.{◌≡◌, List, [], ◌∷◌, ◌++◌, refl, ap, sym, subst}
+use Rattle.std.specs.Prelude.{Option, Some}
 use Rattle.ak_core.specs.declared.event.Event.{Event}
 use Rattle.ak_core.specs.declared.event.Event.TheVariants.{Break, Call, Miss}
 use Rattle.ak_model.specs.Paging.Histories.{History}
-use Rattle.ak_model.specs.Control.ControlState.{Phase, Running, Asked, Context, Program, Broke, Saved, Control}
+use Rattle.ak_model.specs.Control.ControlState.{Running, Asked, Context, Program, Broke, Control}
 use Rattle.ak_model.specs.Control.Trace.{Moment, trace}
-use Rattle.ak_model.specs.Flat.FlatRuns.{Flat}
 use Rattle.ak_model.specs.Flat.Instructions.{reg_of, rax}
 use Rattle.ak_relation.specs.Bytes.Contexts.{GivesNow}
-use Rattle.ak_relation.specs.Bytes.Pages.{KeepsProgram, KeepsFrame}
+use Rattle.ak_relation.specs.Bytes.Pages.{KeepsFrame}
 use Rattle.ak_relation.specs.Program.FlatPlaces.{IsAtBy, Reaches}
 use Rattle.ak_model.specs.Laws.OwedAnswers.{oldest, owing_by}
 use Rattle.ak_relation.specs.Program.Reaching.{BreaksStand}
 use Rattle.ak_relation.specs.State.MachineState.{State}
 use Rattle.ak_relation.specs.Relation.Stands.{runs_at, copies_at}
-use Rattle.ak_relation.specs.Relation.Does.{at_moment}
 use Rattle.ak_relation.specs.Relation.MoveByMove.{moves_of, HasMoved, IsTraced}
 use Rattle.ak_relation.specs.Relation.Witnesses.{IsWitness, ShowsBreak, ShowsAsking, ShowsValue}
 use Rattle.ak_relation.specs.Relation.Example.{one_page, input_program, asked_past, broken_past, returned_past}
@@ -103,11 +101,11 @@ returned_witness =
     let now : r.control.now ≡ Some Program = sym (ap (λ (c : Control). c.now) same) in
     let bytes = r.stands.bytes in
     let given : returned_regs ≡ bytes.flat.regs =
-        subst (λ n. GivesNow one_page r.control.phase bytes.flat n returned_regs) now (bytes.registers.given 0 refl) in
+    subst (λ n. GivesNow one_page r.control.phase bytes.flat n returned_regs) now (bytes.registers.given 0 refl) in
     let settled : Reaches one_page input_program r.control.returned r.control.count bytes.flat =
-        subst (λ (n : Option Context). IsAtBy (owing_by Running (oldest [] n)) one_page input_program r.control.returned r.control.count bytes.flat) now
-        (subst (λ s. IsAtBy (owing_by Running (oldest s r.control.now)) one_page input_program r.control.returned r.control.count bytes.flat) stack
-        (subst (λ p. IsAtBy (owing_by p (oldest r.control.stack r.control.now)) one_page input_program r.control.returned r.control.count bytes.flat) phase bytes.program)) in
+    subst (λ (n : Option Context). IsAtBy (owing_by Running (oldest [] n)) one_page input_program r.control.returned r.control.count bytes.flat) now
+    (subst (λ s. IsAtBy (owing_by Running (oldest s r.control.now)) one_page input_program r.control.returned r.control.count bytes.flat) stack
+    (subst (λ p. IsAtBy (owing_by p (oldest r.control.stack r.control.now)) one_page input_program r.control.returned r.control.count bytes.flat) phase bytes.program)) in
     record {
       state = returned;
       moved = returned_moved;

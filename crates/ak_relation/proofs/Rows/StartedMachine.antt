@@ -1,34 +1,20 @@
 -- The machine of the example after the runtime's step that starts the program: a turn.
-use Rattle.std.proofs.Common.{◌≡◌, ℕ, ◌+◌, ◌*◌, List, [], ◌∷◌, length, refl, ap, sym, ◌∙◌, subst, arith}
-use Rattle.std.proofs.lemmas.Bool.{eqb-true}
-use Rattle.std.proofs.lemmas.Bool.Decides.{nat_tests}
-use Rattle.std.specs.Prelude.{Bool, true, false, ◌||◌, None, ◌==◌, if◌then◌else◌}
+use Rattle.std.proofs.Common.{◌≡◌, ℕ, ◌+◌, ◌*◌, List, [], ◌∷◌, length, refl, sym, ◌∙◌, subst, arith}
+use Rattle.std.specs.Prelude.{Bool, true, false, None, ◌==◌, if◌then◌else◌}
 use Rattle.ak_core.specs.Mem.{Access, access_to}
 use Rattle.ak_core.specs.declared.page.Kind.TheVariants.{Write, Exec}
 use Rattle.ak_core.specs.declared.registers.Regs.{Regs}
-use Rattle.ak_model.specs.Paging.Pages.{ssa_page}
-use Rattle.ak_model.specs.Paging.Histories.{History}
-use Rattle.ak_model.specs.Paging.Holdings.{VaFrame, PageFrame}
-use Rattle.ak_model.specs.Paging.Frames.{held}
-use Rattle.ak_model.specs.Flat.Instructions.{reg_of, rax}
 use Rattle.ak_model.specs.Flat.FlatRuns.{Flat, zeroed}
-use Rattle.ak_model.specs.Control.ControlState.{Phase, New, Running, Calling, Asked, Ended, Trapped, Dead, Context, Program, Enter, Probe, Finish, Guard, Leave, Control}
+use Rattle.ak_model.specs.Control.ControlState.{Phase, New, Running, Calling, Asked, Ended, Trapped, Dead, Context, Enter, Control}
 use Rattle.ak_relation.specs.Bytes.SavedFrames.{SavedFrame}
 use Rattle.ak_relation.specs.Bytes.Pages.{phase_number, IsState}
 use Rattle.ak_relation.specs.State.MachineState.{Processor, State}
-use Rattle.ak_relation.specs.State.Tables.{TablesStand}
 use Rattle.ak_relation.specs.Premises.Rows.{kept_bytes, entry_row}
-use Rattle.ak_relation.specs.Premises.StepsTo.{Went, HasState, Performs, reads_of, MayStep, StepsTo, memory_of}
-use Rattle.ak_relation.specs.Premises.Works.{WritesFrames, KeepsTables}
-use Rattle.ak_relation.specs.Premises.Shows.{MemorySees, StepLeaves, ShowsStep}
+use Rattle.ak_relation.specs.Premises.StepsTo.{Went, HasState, Performs, reads_of, StepsTo}
 use Rattle.ak_relation.specs.Relation.Does.{IsTurn}
 use Rattle.ak_relation.specs.Relation.Example.{one_page}
-use Rattle.ak_relation.proofs.Runtime.FrameWrites.{writes_by}
-use Rattle.ak_relation.proofs.Runtime.ValidTurns.{valid_turns}
-use Rattle.ak_relation.proofs.Entering.EnterAnswers.{walk_same}
-use Rattle.ak_relation.proofs.Leaves.ViewStands.{view-same}
 use Rattle.ak_relation.proofs.Rows.BlankPages.{blank, blank_at, one_slot, one_slot_whole, slot_number, same_kept}
-use Rattle.ak_relation.proofs.Rows.BuiltMachine.{page_valid, outside}
+use Rattle.ak_relation.proofs.Rows.BuiltMachine.{outside}
 use Rattle.ak_relation.proofs.Rows.EnteredMachine.{its_regs}
 use Rattle.ak_relation.proofs.Rows.StepContexts.{entry_context}
 use Rattle.ak_relation.proofs.Rows.StepMemory.{Written, at_place, over, bytes_of, all_areas, state_alone, Changes, Steps, step_turn}

@@ -1,5 +1,5 @@
 -- Pages of STATE: with a phase, a queue of at most cluster 0, and a frame.
-use Rattle.std.proofs.Common.{◌≡◌, ℕ, zero, suc, ◌+◌, ◌*◌, List, [], ◌∷◌, ◌++◌, length, take, drop, refl, ap, sym, ◌∙◌, arith}
+use Rattle.std.proofs.Common.{◌≡◌, ℕ, zero, suc, ◌+◌, ◌*◌, List, [], ◌∷◌, ◌++◌, length, take, drop, refl, ap, ◌∙◌, arith}
 use Rattle.std.proofs.lemmas.List.{length-replicate, length-append, drop_at, take_at}
 use Rattle.std.specs.Prelude.{replicate, Some, slice_get}
 use Rattle.ak_relation.specs.Bytes.SavedFrames.{number_at}

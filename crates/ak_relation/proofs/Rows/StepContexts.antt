@@ -1,6 +1,5 @@
 -- Which context, phase and queue the registers and STATE tell of, where a step of the runtime is defined.
-use Rattle.std.proofs.Common.{◌≡◌, ℕ, zero, suc, ◌+◌, ◌*◌, ◌<◌, List, [], ◌∷◌, length, refl, ap, sym, ◌∙◌, subst, arith}
-use Rattle.std.specs.Prelude.{Some, slice_get}
+use Rattle.std.proofs.Common.{◌≡◌, ℕ, List, [], ◌∷◌, length, refl, ap, sym, ◌∙◌, subst, arith}
 use Rattle.ak_core.specs.declared.registers.Mode.{Mode}
 use Rattle.ak_core.specs.declared.registers.Regs.{Regs}
 use Rattle.ak_model.specs.Flat.Instructions.{reg_of, with_reg, rax, rcx, rsi, rdi}
@@ -8,7 +7,7 @@ use Rattle.ak_model.specs.Flat.FlatRuns.{Flat, zeroed}
 use Rattle.ak_model.specs.Control.ControlState.{Phase, New, Running, Calling, Asked, Ended, Trapped, Dead, Context, Program, Enter, Probe, Finish, Guard, Leave, Control}
 use Rattle.ak_model.specs.Control.RuntimeTurn.{asked_pages}
 use Rattle.ak_model.specs.Laws.StepRows.{HasRow}
-use Rattle.ak_relation.specs.Bytes.SavedFrames.{number_at, SavedFrame, frame_bytes, state_place, HasFrame}
+use Rattle.ak_relation.specs.Bytes.SavedFrames.{number_at, SavedFrame, state_place, HasFrame}
 use Rattle.ak_relation.specs.Bytes.SavedRegisters.{AreRegs, regs_in}
 use Rattle.ak_relation.specs.Bytes.Contexts.{step_address, entry_regs, Gives}
 use Rattle.ak_relation.specs.Bytes.Pages.{phase_number, SaysMore}

@@ -16,7 +16,7 @@ use Rattle.ak_model.specs.Paging.Frames.{held}
 use Rattle.ak_model.specs.Flat.FlatRuns.{Flat}
 use Rattle.ak_model.specs.Control.ControlState.{Context, Control}
 use Rattle.ak_epcm.specs.Entries.{entry_at}
-use Rattle.ak_relation.specs.Bytes.SavedFrames.{SavedCause, SavedFrame, frame_bytes, area_place, HasFrame}
+use Rattle.ak_relation.specs.Bytes.SavedFrames.{SavedCause, frame_bytes, area_place, HasFrame}
 use Rattle.ak_relation.specs.Bytes.FramesFit.{CauseFits}
 use Rattle.ak_relation.specs.Bytes.Contexts.{entry_regs}
 use Rattle.ak_relation.specs.Bytes.Pages.{IsTcs}

@@ -1,7 +1,6 @@
 -- The machine of the example after an instruction of the program that is undefined: it raises a vector.
-use Rattle.std.proofs.Common.{◌≡◌, ◌≢◌, ℕ, ◌+◌, [], ◌∷◌, drop, refl, ap, sym, ◌∙◌, subst, arith}
-use Rattle.std.specs.Prelude.{Bool, true, false, ◌||◌, None, Some}
-use Rattle.ak_core.specs.Mem.{Access}
+use Rattle.std.proofs.Common.{◌≡◌, ◌≢◌, ℕ, [], ◌∷◌, drop, refl, ap, sym, ◌∙◌, arith}
+use Rattle.std.specs.Prelude.{true, None, Some}
 use Rattle.ak_core.specs.declared.event.Event.TheVariants.{Call, Trap}
 use Rattle.ak_core.specs.declared.page.Kind.TheVariants.{Exec}
 use Rattle.ak_core.specs.declared.moves.Move.TheVariants.{Run}
