@@ -13,7 +13,9 @@ pub mod ComputedMachine
 pub mod MissedMachine
 pub mod AskedMachine
 pub mod FetchedMachine
+pub mod FaultedMachine
 pub mod BrokenMachine
+pub mod StoppedMachine
 pub mod CalledMachine
 pub mod ReturnedMachine
 pub mod TrappedMachine

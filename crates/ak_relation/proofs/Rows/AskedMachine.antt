@@ -111,7 +111,7 @@ first_words =
       rip = omega arith;
     }
 
-program_fits : FrameFits one_page program_frame
+pub program_fits : FrameFits one_page program_frame
 program_fits = record { words = first_words; cause = omega arith }
 
 abbrev before : ℕ → List ℕ

@@ -31,7 +31,7 @@ use Rattle.ak_relation.proofs.Rows.StartedMachine.{fetch, starting}
 use Rattle.ak_relation.proofs.Rows.MissedMachine.{first_fetch, frame_size}
 use Rattle.ak_relation.proofs.Rows.AskedMachine.{first_words}
 use Rattle.ak_relation.proofs.Rows.FetchedMachine.{cleared_frame, cleared_bytes, cleared_size, ready, ready_whole, ready_moves}
-use Rattle.ak_relation.proofs.Rows.StepMemory.{at_place, over, over_whole, saved_with, saves_with}
+use Rattle.ak_relation.proofs.Rows.StepMemory.{at_place, over, over_whole, saved_with, saved_whole, saves_with}
 
 -- ---- The resuming
 
@@ -91,9 +91,12 @@ lose_move = set_pte_moves one_page continued (record { 0 = 0 }) (record { 0 = 0 
 abbrev pub broken : State
 broken = saved_with lost (ByPage fetch) one_refused
 
+pub broken_whole : (g : ℕ) → length (broken.frames g) ≡ 4096
+broken_whole = saved_whole lost (ByPage fetch) one_refused one_refused_whole frame_size continued_whole
+
 saves : Saves one_page 0 0 true (ByPage fetch) lost broken
 saves =
-    saves_with lost 0 true (ByPage fetch) one_refused (0 ∷ []) refl (omega arith) refl (record { saved_is = refused_saved; pending_is = refused_flag }) one_refused_whole frame_size
+    saves_with lost 0 true (ByPage fetch) one_refused (0 ∷ []) (λ runtime. absurd (cc)) (omega arith) refl (record { saved_is = refused_saved; pending_is = refused_flag }) one_refused_whole frame_size
     continued_whole refl
 
 faults : (flat : Flat) → Sees one_page lost 0 flat → Faults one_page lost [] flat fetch

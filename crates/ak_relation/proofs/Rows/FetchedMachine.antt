@@ -62,10 +62,10 @@ probing_whole = over_whole (at_place 2 one_saved ∷ []) asked.frames (one_saved
 
 -- ---- What STATE says
 
-abbrev asked_state : List ℕ
+abbrev pub asked_state : List ℕ
 asked_state = state_with 3 0 program_bytes
 
-asks : (phase : Phase) (queue : List ℕ) (flat : Flat) → IsState one_page phase queue flat asked_state → phase ≡ Asked 0
+pub asks : (phase : Phase) (queue : List ℕ) (flat : Flat) → IsState one_page phase queue flat asked_state → phase ≡ Asked 0
 asks phase queue flat state =
     phase_asked phase asked_state (sym (state_phase 3 0 program_bytes) ∙ state.phase_is) state.more (state_more 3 0 program_bytes)
 
@@ -74,15 +74,34 @@ empty phase queue flat state = no_queue queue (sym (state_size 3 0 program_bytes
 
 -- ---- The entry step
 
+abbrev pub entry_granted : List Access
+entry_granted = access_to 6 Exec ∷ access_to 5 Write ∷ access_to 2 Write ∷ []
+
+abbrev pub entry_pages : List ℕ
+entry_pages = 2 ∷ 5 ∷ 6 ∷ []
+
+-- of each machine that was entered with this STATE
+module _ (base : State) (has : bytes_of (entered_with base 1 7 one_saved) 5 ≡ asked_state) where
+  abbrev entry_bytes : ℕ → List ℕ
+  entry_bytes = bytes_of (entered_with base 1 7 one_saved)
+
+  entry_performs : (control : Control) → control.phase ≡ Asked 0 → (kept saved : SavedFrame) →
+      Performs one_page (entry_row one_page (reads_of one_page control.phase control.queue entry_bytes kept saved) 1 7 control.phase) entry_bytes entry_bytes Went (step_regs 48 0)
+  entry_performs control is kept saved =
+      subst (λ phase. Performs one_page (entry_row one_page (reads_of one_page phase control.queue entry_bytes kept saved) 1 7 phase) entry_bytes entry_bytes Went (step_regs 48 0)) (sym is)
+      (record { ends = (refl, record { mode = refl; rip = refl }, refl); state = refl; areas = λ i lt. refl; others = λ p apart areas. refl })
+
+  entry_step : (control : Control) → control.phase ≡ Asked 0 → StepsTo one_page control (Enter 1 7) (entry_regs one_page 1 7) entry_bytes entry_bytes entry_granted None Went (step_regs 48 0)
+  entry_step control is = record { works = λ none. (refl, λ kept saved reads_kept reads. entry_performs control is kept saved); faults = λ t e. absurd (cc) }
+
+  pub entry_steps : Steps (entered_with base 1 7 one_saved) entry_pages [] entry_granted Went (step_regs 48 0)
+  entry_steps control context flat may =
+      entry_context 1 7 control flat (λ (c : Context). StepsTo one_page control c (entry_regs one_page 1 7) entry_bytes entry_bytes entry_granted None Went (step_regs 48 0))
+      (entry_step control (asks control.phase control.queue flat (subst (IsState one_page control.phase control.queue flat) has may.state))) context may.row may.registers
+
 -- the machine
 abbrev first : State
 first = gone_with probing [] (step_regs 48 0)
-
-abbrev entry_granted : List Access
-entry_granted = access_to 6 Exec ∷ access_to 5 Write ∷ access_to 2 Write ∷ []
-
-abbrev entry_pages : List ℕ
-entry_pages = 2 ∷ 5 ∷ 6 ∷ []
 
 entry_changes : Changes probing first entry_pages [] entry_granted
 entry_changes = record {
@@ -101,26 +120,10 @@ entry_changes = record {
   queue = refl;
 }
 
-module _ (control : Control) (flat : Flat) (may : MayStep one_page control (Enter 1 7) flat (entry_regs one_page 1 7) (memory_of (holds_of entry_pages) (bytes_of probing))) where
-  entry_performs : (kept saved : SavedFrame) →
-      Performs one_page (entry_row one_page (reads_of one_page control.phase control.queue (bytes_of probing) kept saved) 1 7 control.phase) (bytes_of probing) (bytes_of probing) Went (step_regs 48 0)
-  entry_performs kept saved =
-      subst (λ phase. Performs one_page (entry_row one_page (reads_of one_page phase control.queue (bytes_of probing) kept saved) 1 7 phase) (bytes_of probing) (bytes_of probing) Went (step_regs 48 0)) (sym (asks control.phase control.queue flat may.state))
-      (record { ends = (refl, record { mode = refl; rip = refl }, refl); state = refl; areas = λ i lt. refl; others = λ p apart areas. refl })
-
-  entry_step : StepsTo one_page control (Enter 1 7) (entry_regs one_page 1 7) (bytes_of probing) (bytes_of probing) entry_granted None Went (step_regs 48 0)
-  entry_step = record { works = λ none. (refl, λ kept saved reads_kept reads. entry_performs kept saved); faults = λ t e. absurd (cc) }
-
-entry_steps : Steps probing entry_pages [] entry_granted Went (step_regs 48 0)
-entry_steps control context flat may =
-    entry_context 1 7 control flat
-    (λ (c : Context). MayStep one_page control c flat (entry_regs one_page 1 7) (memory_of (holds_of entry_pages) (bytes_of probing)) → StepsTo one_page control c (entry_regs one_page 1 7) (bytes_of probing) (bytes_of probing) entry_granted None Went (step_regs 48 0))
-    (entry_step control flat) context may.row may.registers may
-
 entry_turn : IsTurn one_page 0 probing first None None
 entry_turn =
     step_turn probing first entry_pages [] entry_granted Went (step_regs 48 0) refl entry_changes
-    (record { regs_are = refl; inside = refl; fills = refl; tcs = refl; ssa = refl; others = λ q e. rw e refl; track = refl }) entry_steps
+    (record { regs_are = refl; inside = refl; fills = refl; tcs = refl; ssa = refl; others = λ q e. rw e refl; track = refl }) (entry_steps restored refl)
 
 -- ---- The probe
 

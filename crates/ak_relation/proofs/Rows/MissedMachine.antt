@@ -90,7 +90,7 @@ missed_whole = saved_whole hidden (ByPage fetch) one_refused one_refused_whole f
 
 saves : Saves one_page 0 0 true (ByPage fetch) hidden missed
 saves =
-    saves_with hidden 0 true (ByPage fetch) one_refused (0 ∷ []) refl (omega arith) refl (record { saved_is = refused_saved; pending_is = refused_flag })
+    saves_with hidden 0 true (ByPage fetch) one_refused (0 ∷ []) (λ runtime. absurd (cc)) (omega arith) refl (record { saved_is = refused_saved; pending_is = refused_flag })
     one_refused_whole frame_size started_whole refl
 
 faults : (flat : Flat) → Sees one_page hidden 0 flat → Faults one_page hidden [] flat fetch

@@ -1,5 +1,6 @@
 -- Which context, phase and queue the registers and STATE tell of, where a step of the runtime is defined.
-use Rattle.std.proofs.Common.{◌≡◌, ℕ, List, [], ◌∷◌, length, refl, ap, sym, ◌∙◌, subst, arith}
+use Rattle.std.proofs.Common.{◌≡◌, ℕ, List, [], ◌∷◌, length, refl, ap, sym, ◌∙◌, subst, ◌+◌, ◌*◌, arith}
+use Rattle.std.specs.Prelude.{Some, slice_get}
 use Rattle.ak_core.specs.declared.registers.Mode.{Mode}
 use Rattle.ak_core.specs.declared.registers.Regs.{Regs}
 use Rattle.ak_model.specs.Flat.Instructions.{reg_of, with_reg, rax, rcx, rsi, rdi}
@@ -44,11 +45,17 @@ phase_asked (Ended s) bytes e m z = absurd (omega arith)
 phase_asked (Trapped v) bytes e m z = absurd (omega arith)
 phase_asked Dead bytes e m z = absurd (omega arith)
 
--- ---- An empty queue
+-- ---- Queues
 
 pub no_queue : (queue : List ℕ) → 0 ≡ length queue → queue ≡ []
 no_queue [] e = refl
 no_queue (c ∷ queue) e = absurd (omega arith)
+
+-- a queue of cluster 0 alone
+pub one_queue : (queue bytes : List ℕ) → 1 ≡ length queue → ((i c : ℕ) → slice_get queue i ≡ Some c → number_at bytes (1024 + 2 * i) 2 ≡ c) → number_at bytes 1024 2 ≡ 0 → queue ≡ 0 ∷ []
+one_queue [] bytes e clusters z = absurd (omega arith)
+one_queue (c ∷ []) bytes e clusters z = ap (λ d. d ∷ []) (sym (clusters 0 c refl) ∙ z)
+one_queue (c ∷ d ∷ queue) bytes e clusters z = absurd (omega arith)
 
 -- ---- Contexts
 

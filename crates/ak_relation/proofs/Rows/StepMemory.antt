@@ -1,9 +1,9 @@
 -- Moves of the example's machines in general: bytes that change at few places, a step of the runtime over the pages that its memory
 -- holds, an entering, and a saving.
-use Rattle.std.proofs.Common.{◌≡◌, ℕ, zero, suc, ◌+◌, ◌<◌, List, [], ◌∷◌, length, refl, ap, sym, ◌∙◌, subst, arith}
+use Rattle.std.proofs.Common.{◌≡◌, ℕ, zero, suc, ◌+◌, ◌<◌, List, [], ◌∷◌, ◌++◌, length, refl, ap, sym, ◌∙◌, subst, arith}
 use Rattle.std.proofs.lemmas.Bool.{eqb-true}
 use Rattle.std.proofs.lemmas.Bool.Decides.{nat_tests}
-use Rattle.std.specs.Prelude.{◌≢◌, Bool, true, false, ◌||◌, ◌^◌, None, ◌==◌, if◌then◌else◌}
+use Rattle.std.specs.Prelude.{◌≢◌, Bool, true, false, ◌||◌, ◌^◌, Some, None, ◌==◌, if◌then◌else◌}
 use Rattle.ak_core.specs.Mem.{Access}
 use Rattle.ak_core.specs.declared.moves.Move.TheVariants.{Eenter}
 use Rattle.ak_core.specs.declared.moves.Answer.TheVariants.{Ok}
@@ -16,8 +16,10 @@ use Rattle.ak_model.specs.Paging.Frames.{held}
 use Rattle.ak_model.specs.Flat.FlatRuns.{Flat}
 use Rattle.ak_model.specs.Control.ControlState.{Context, Control}
 use Rattle.ak_epcm.specs.Entries.{entry_at}
-use Rattle.ak_relation.specs.Bytes.SavedFrames.{SavedCause, frame_bytes, area_place, HasFrame}
+use Rattle.ak_relation.specs.Bytes.SavedFrames.{SavedCause, ByPage, frame_bytes, area_place, HasFrame}
 use Rattle.ak_relation.specs.Bytes.FramesFit.{CauseFits}
+use Rattle.ak_relation.specs.Bytes.SavedRegisters.{AreRegs}
+use Rattle.ak_model.specs.Control.RuntimeTurn.{accesses, shown_fault}
 use Rattle.ak_relation.specs.Bytes.Contexts.{entry_regs}
 use Rattle.ak_relation.specs.Bytes.Pages.{IsTcs}
 use Rattle.ak_relation.specs.State.MachineState.{Processor, State}
@@ -28,7 +30,7 @@ use Rattle.ak_relation.specs.Premises.EnterRows.{walk_in, saved_in, enter_row}
 use Rattle.ak_relation.specs.Premises.Entering.{EntersAt}
 use Rattle.ak_relation.specs.Premises.Saving.{missed_in, Saves}
 use Rattle.ak_model.specs.Laws.Orderly.{after_miss_if}
-use Rattle.ak_relation.specs.Premises.StepsTo.{Outcome, MayStep, StepsTo, memory_of}
+use Rattle.ak_relation.specs.Premises.StepsTo.{Outcome, Refused, MayStep, StepsTo, memory_of}
 use Rattle.ak_relation.specs.Premises.Works.{AreFound, WritesFrames, Ends, exit_of}
 use Rattle.ak_relation.specs.Premises.Shows.{MemorySees, StepLeaves, ShowsStep}
 use Rattle.ak_relation.specs.Relation.Does.{IsTurn, IsMove}
@@ -236,6 +238,38 @@ step_turn old new qs ws granted outcome regs mode c ends steps = valid_turns one
       faults = λ t e. absurd (cc);
     }
 
+-- a step whose first refused access is this one, and that is saved
+pub refused_turn : (old new : State) (qs : List ℕ) (granted : List Access) (t : Access) → (old.processors 0).regs.mode ≡ Mode.Runtime → Changes old old qs [] granted →
+    t.page.0 < 7 → walk_in one_page old t.page.0 t.kind ≡ false →
+    ((control : Control) (context : Context) (flat : Flat) → MayStep one_page control context flat (old.processors 0).regs (memory_of (holds_of qs) (bytes_of old)) →
+    ((later : List Access) × (granted ++ t ∷ later ≡ accesses one_page control context))) →
+    ((saved : ℕ) (pending : Bool) → IsTcs saved pending (old.frames (old.processors 0).tcs) → Saves one_page 0 saved true (ByPage t) old new) →
+    IsTurn one_page 0 old new (Some (shown_fault one_page)) None
+refused_turn old new qs granted t mode c low lost next saves = valid_turns one_page page_valid refl (record { 0 = 0 }) old new (Refused t) shows
+  where
+    sees : (past : History) → TablesStand one_page past old → MemorySees one_page past (holds_of qs) (bytes_of old) granted (Some t) old
+    sees past h =
+        let seen = step_sees old old qs [] granted c past h in
+        record { memory = seen.memory; found = seen.found; lost = sym (walk_same one_page past old h t.page.0 t.kind low) ∙ lost }
+
+    shows : ShowsStep one_page 0 old new (Refused t)
+    shows = record {
+      mode = mode;
+      holds = holds_of qs;
+      before = bytes_of old;
+      after = bytes_of old;
+      granted = granted;
+      refused = Some t;
+      regs = (old.processors 0).regs;
+      steps = λ control context flat may. record {
+        works = λ none. absurd (cc);
+        faults = λ s e. (let same : t ≡ s = cc in subst (λ a. ((later : List Access) × (granted ++ a ∷ later ≡ accesses one_page control context)) × (bytes_of old ≡ bytes_of old) × ((old.processors 0).regs ≡ (old.processors 0).regs) × (Refused t ≡ Refused a)) same (next control context flat may, refl, refl, refl));
+      };
+      sees = sees;
+      works = λ none. absurd (cc);
+      faults = λ s e saved pending tcs. (let same : t ≡ s = cc in subst (λ a. Saves one_page 0 saved true (ByPage a) old new) same (saves saved pending tcs));
+    }
+
 -- the machine with new bytes of pages, whose processor has left
 abbrev pub left_with : State → List Written → State
 left_with old ws = record old { frames = over (in_frames old ws) old.frames; processors = λ lp. if lp == 0 then outside else old.processors lp; track = LeavesBy 0 ∷ old.track }
@@ -312,15 +346,15 @@ saved_whole old cause tcs whole size all =
     (whole, (area_whole (saved_bytes old cause) size, tt)) all
 
 -- with this queue after it
-pub saves_with : (old : State) (saved : ℕ) (pending : Bool) (cause : SavedCause) (tcs queue : List ℕ) → (old.processors 0).regs.mode ≡ Mode.Program → CauseFits one_page cause →
+pub saves_with : (old : State) (saved : ℕ) (pending : Bool) (cause : SavedCause) (tcs queue : List ℕ) → ((old.processors 0).regs.mode ≡ Mode.Runtime → AreRegs (old.processors 0).regs) → CauseFits one_page cause →
     ((old.processors 0).ssa == (old.processors 0).tcs) ≡ false → IsTcs (saved + 1) pending tcs → length tcs ≡ 4096 → length (saved_bytes old cause) ≡ 200 →
     ((g : ℕ) → length (old.frames g) ≡ 4096) → queue ≡ after_miss_if one_page old.queue (missed_in one_page old.queue cause (old.processors 0).regs.mode) →
     Saves one_page 0 saved pending cause old (record (saved_with old cause tcs) { queue = queue })
-saves_with old saved pending cause tcs queue mode fits apart is whole size all queue_is = record {
+saves_with old saved pending cause tcs queue words fits apart is whole size all queue_is = record {
   area = subst (λ b. HasFrame one_page area_place (if b then tcs else (if (old.processors 0).ssa == (old.processors 0).ssa then area_with (saved_bytes old cause) else old.frames (old.processors 0).ssa)) (record { regs = (old.processors 0).regs; cause = cause })) (sym apart)
       (subst (λ b. HasFrame one_page area_place (if b then area_with (saved_bytes old cause) else old.frames (old.processors 0).ssa) (record { regs = (old.processors 0).regs; cause = cause })) (sym (equal (old.processors 0).ssa))
       (area_has (saved_bytes old cause) size));
-  words = λ runtime. absurd (let clash : Mode.Runtime ≡ Mode.Program = sym runtime ∙ mode in cc);
+  words = words;
   fits = fits;
   tcs = subst (λ b. IsTcs (saved + 1) pending (if b then tcs else over (at_place (old.processors 0).ssa (area_with (saved_bytes old cause)) ∷ []) old.frames (old.processors 0).tcs)) (sym (equal (old.processors 0).tcs)) is;
   frames = λ g no_tcs no_area. rw (no_tcs, no_area) refl;

@@ -61,7 +61,7 @@ frame_size = refl
 
 saves : Saves one_page 0 0 true (ByVector 6) returned trapped
 saves =
-    saves_with returned 0 true (ByVector 6) one_refused [] refl (omega arith) refl (record { saved_is = refused_saved; pending_is = refused_flag }) one_refused_whole frame_size
+    saves_with returned 0 true (ByVector 6) one_refused [] (λ runtime. absurd (cc)) (omega arith) refl (record { saved_is = refused_saved; pending_is = refused_flag }) one_refused_whole frame_size
     returned_whole refl
 
 other_vector : ◌≢◌ {A = ℕ} 6 14

@@ -93,7 +93,14 @@ handling_past = (Eenter (record { 0 = 0 }) 7, Ok) ∷ missed_past
 abbrev pub asked_past : History
 asked_past = (Run (record { 0 = 0 }) 1, Answer.Exit (Exit.Ask 0 0)) ∷ handling_past
 
--- the page is mapped again, and the runtime finds it
+-- the kernel enters without mapping the page, and the runtime's probe faults
+abbrev pub trying_past : History
+trying_past = (Eenter (record { 0 = 0 }) 7, Ok) ∷ asked_past
+
+abbrev pub faulted_past : History
+faulted_past = (Run (record { 0 = 0 }) 2, Answer.Exit (shown_fault one_page)) ∷ trying_past
+
+-- or the page is mapped again, and the runtime finds it
 abbrev pub restored_past : History
 restored_past = (SetPte (record { 0 = 0 }) (record { 0 = 8 }) (flags_for Rx), Ok) ∷ asked_past
 
@@ -112,6 +119,13 @@ lost_past = (SetPte (record { 0 = 0 }) (record { 0 = 0 }) no_flags, Ok) ∷ cont
 
 abbrev pub broken_past : History
 broken_past = (Run (record { 0 = 0 }) 1, Answer.Exit (shown_fault one_page)) ∷ lost_past
+
+-- the processor enters again, and the runtime stops the enclave
+abbrev pub stopping_past : History
+stopping_past = (Eenter (record { 0 = 0 }) 7, Ok) ∷ broken_past
+
+abbrev pub stopped_past : History
+stopped_past = (Run (record { 0 = 0 }) 1, Answer.Exit Exit.Stopped) ∷ stopping_past
 
 -- or, after the first instruction, four turns more: two instructions, the call, and the runtime's step that leaves with it
 abbrev pub called_past : History

@@ -1,6 +1,6 @@
 // Laws that the relation is reached: computed machines of an example.
 ghost use Rattle.ak_core.specs.declared.event.Event.TheVariants.{Break, Call, Miss, Trap};
-ghost use Rattle.ak_relation.specs.Relation.Example.{IsReached, asked_past, broken_past, built_past, called_past, computed_past, entered_past, input_program, interrupted_past, missed_past, one_page, ready_past, resumed_past, returned_past, trapped_past, written_past};
+ghost use Rattle.ak_relation.specs.Relation.Example.{IsReached, asked_past, broken_past, built_past, called_past, computed_past, entered_past, faulted_past, input_program, interrupted_past, missed_past, one_page, ready_past, resumed_past, returned_past, stopped_past, trapped_past, written_past};
 ghost use Rattle.ak_relation.specs.Relation.Witnesses.{IsWitness, ShowsAsking, ShowsBreak, ShowsValue};
 ghost use Rattle.std.specs.Prelude.{[], ◌∷◌};
 
@@ -18,8 +18,10 @@ pub fn example_moments_are_reached()
     ensures computed { IsReached computed_past [] }
     ensures missed { IsReached missed_past (Miss 0 0 ∷ []) }
     ensures asked { IsReached asked_past (Miss 0 0 ∷ []) }
+    ensures faulted { IsReached faulted_past (Miss 0 0 ∷ []) }
     ensures ready { IsReached ready_past (Miss 0 0 ∷ []) }
     ensures broken { IsReached broken_past (Miss 0 0 ∷ Break 0 ∷ []) }
+    ensures stopped { IsReached stopped_past (Miss 0 0 ∷ Break 0 ∷ []) }
     ensures called { IsReached called_past (Call 3 2 0 ∷ []) }
     ensures returned { IsReached returned_past (Call 3 2 0 ∷ []) }
     ensures trapped { IsReached trapped_past (Call 3 2 0 ∷ Trap 4 6 ∷ []) }
