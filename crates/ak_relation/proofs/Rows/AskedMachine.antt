@@ -64,7 +64,7 @@ guard_size = refl
 
 -- STATE has the program's frame, and the area that of the guard
 abbrev asked_written : List Written
-asked_written = at_place 5 (state_with 3 0 program_bytes) ∷ at_place 2 (area_with guard_bytes) ∷ []
+asked_written = at_place 5 (state_with 3 0 0 program_bytes) ∷ at_place 2 (area_with guard_bytes) ∷ []
 
 -- the machine
 abbrev pub asked : State
@@ -72,7 +72,7 @@ asked = left_with handling asked_written
 
 pub asked_whole : (g : ℕ) → length (asked.frames g) ≡ 4096
 asked_whole =
-    over_whole (in_frames handling asked_written) handling.frames (state_whole 3 0 program_bytes frame_size, (area_whole guard_bytes guard_size, tt)) handling_whole
+    over_whole (in_frames handling asked_written) handling.frames (state_whole 3 0 0 program_bytes frame_size, (area_whole guard_bytes guard_size, tt)) handling_whole
 
 abbrev granted : List Access
 granted = access_to 6 Exec ∷ access_to 5 Write ∷ access_to 2 Write ∷ []
@@ -135,14 +135,14 @@ module _ (control : Control) (flat : Flat) (may : MayStep one_page control (Ente
   asks = record {
     ends = refl;
     state = record {
-      phase_is = state_phase 3 0 program_bytes;
-      more = state_more 3 0 program_bytes;
-      size = state_size 3 0 program_bytes;
-      clusters = no_clusters (state_with 3 0 program_bytes);
-      frame_is = state_frame 3 0 program_bytes frame_size ∙ sym (area_has program_bytes frame_size);
+      phase_is = state_phase 3 0 0 program_bytes;
+      more = state_more 3 0 0 program_bytes;
+      size = state_size 3 0 0 program_bytes;
+      clusters = no_clusters (state_with 3 0 0 program_bytes);
+      frame_is = state_frame 3 0 0 program_bytes frame_size ∙ sym (area_has program_bytes frame_size);
     };
-    areas = (guards, later_areas (state_with 3 0 program_bytes) (area_with guard_bytes) before);
-    others = state_and_area (state_with 3 0 program_bytes) (area_with guard_bytes) before;
+    areas = (guards, later_areas (state_with 3 0 0 program_bytes) (area_with guard_bytes) before);
+    others = state_and_area (state_with 3 0 0 program_bytes) (area_with guard_bytes) before;
   }
 
   performs : (kept saved : SavedFrame) → ReadsSaved one_page before (Enter 1 7) saved →

@@ -191,14 +191,14 @@ unfolding frame_bytes
 kept_size = refl
 
 abbrev called_written : List Written
-called_written = at_place 5 (state_with 2 0 kept_frame_bytes) ∷ []
+called_written = at_place 5 (state_with 2 0 0 kept_frame_bytes) ∷ []
 
 -- the machine
 abbrev pub called : State
 called = left_with leaving called_written
 
 pub called_whole : (g : ℕ) → length (called.frames g) ≡ 4096
-called_whole = over_whole (in_frames leaving called_written) leaving.frames (state_whole 2 0 kept_frame_bytes kept_size, tt) started_whole
+called_whole = over_whole (in_frames leaving called_written) leaving.frames (state_whole 2 0 0 kept_frame_bytes kept_size, tt) started_whole
 
 abbrev granted : List Access
 granted = access_to 6 Exec ∷ access_to 5 Write ∷ []
@@ -234,14 +234,14 @@ module _ (control : Control) (none_in : control.queue ≡ []) where
   leaves kept saved = record {
     ends = refl;
     state = record {
-      phase_is = state_phase 2 0 kept_frame_bytes;
+      phase_is = state_phase 2 0 0 kept_frame_bytes;
       more = tt;
-      size = state_size 2 0 kept_frame_bytes;
-      clusters = no_clusters (state_with 2 0 kept_frame_bytes);
-      frame_is = state_frame 2 0 kept_frame_bytes kept_size;
+      size = state_size 2 0 0 kept_frame_bytes;
+      clusters = no_clusters (state_with 2 0 0 kept_frame_bytes);
+      frame_is = state_frame 2 0 0 kept_frame_bytes kept_size;
     };
-    areas = all_areas (state_with 2 0 kept_frame_bytes) before;
-    others = λ p apart areas. state_alone (state_with 2 0 kept_frame_bytes) before p apart;
+    areas = all_areas (state_with 2 0 0 kept_frame_bytes) before;
+    others = λ p apart areas. state_alone (state_with 2 0 0 kept_frame_bytes) before p apart;
   }
 
   leave_step : StepsTo one_page control (Leave 2 0) leaving_regs before after granted None (Left (Exit.Call 2 0)) leaving_regs

@@ -63,14 +63,14 @@ probing_whole = over_whole (at_place 2 one_saved ∷ []) asked.frames (one_saved
 -- ---- What STATE says
 
 abbrev pub asked_state : List ℕ
-asked_state = state_with 3 0 program_bytes
+asked_state = state_with 3 0 0 program_bytes
 
 pub asks : (phase : Phase) (queue : List ℕ) (flat : Flat) → IsState one_page phase queue flat asked_state → phase ≡ Asked 0
 asks phase queue flat state =
-    phase_asked phase asked_state (sym (state_phase 3 0 program_bytes) ∙ state.phase_is) state.more (state_more 3 0 program_bytes)
+    phase_asked phase asked_state (sym (state_phase 3 0 0 program_bytes) ∙ state.phase_is) state.more (state_more 3 0 0 program_bytes)
 
 empty : (phase : Phase) (queue : List ℕ) (flat : Flat) → IsState one_page phase queue flat asked_state → queue ≡ []
-empty phase queue flat state = no_queue queue (sym (state_size 3 0 program_bytes) ∙ state.size)
+empty phase queue flat state = no_queue queue (sym (state_size 3 0 0 program_bytes) ∙ state.size)
 
 -- ---- The entry step
 
@@ -187,7 +187,7 @@ cleared_size = refl
 
 -- STATE has the cluster in its queue, and the area the program's frame
 abbrev ready_written : List Written
-ready_written = at_place 5 (state_with 1 1 program_bytes) ∷ at_place 2 (area_with cleared_bytes) ∷ []
+ready_written = at_place 5 (state_with 1 0 1 program_bytes) ∷ at_place 2 (area_with cleared_bytes) ∷ []
 
 -- the machine
 abbrev pub ready : State
@@ -195,7 +195,7 @@ ready = left_with second ready_written
 
 pub ready_whole : (g : ℕ) → length (ready.frames g) ≡ 4096
 ready_whole =
-    over_whole (in_frames second ready_written) second.frames (state_whole 1 1 program_bytes frame_size, (area_whole cleared_bytes cleared_size, tt)) probing_whole
+    over_whole (in_frames second ready_written) second.frames (state_whole 1 0 1 program_bytes frame_size, (area_whole cleared_bytes cleared_size, tt)) probing_whole
 
 finish_changes : Changes second ready entry_pages ready_written entry_granted
 finish_changes = record {
@@ -225,21 +225,21 @@ module _ (control : Control) (flat : Flat) (is : control.phase ≡ Asked 0) (non
   finishes kept saved = record {
     ends = refl;
     state = record {
-      phase_is = state_phase 1 1 program_bytes;
+      phase_is = state_phase 1 0 1 program_bytes;
       more = tt;
-      size = state_size 1 1 program_bytes;
-      clusters = one_cluster 1 1 program_bytes;
-      frame_is = state_frame 1 1 program_bytes frame_size ∙ sym (state_frame 3 0 program_bytes frame_size);
+      size = state_size 1 0 1 program_bytes;
+      clusters = one_cluster 1 0 1 program_bytes;
+      frame_is = state_frame 1 0 1 program_bytes frame_size ∙ sym (state_frame 3 0 0 program_bytes frame_size);
     };
-    areas = (area_has cleared_bytes cleared_size, later_areas (state_with 1 1 program_bytes) (area_with cleared_bytes) before);
-    others = state_and_area (state_with 1 1 program_bytes) (area_with cleared_bytes) before;
+    areas = (area_has cleared_bytes cleared_size, later_areas (state_with 1 0 1 program_bytes) (area_with cleared_bytes) before);
+    others = state_and_area (state_with 1 0 1 program_bytes) (area_with cleared_bytes) before;
   }
 
   finish_performs : (kept saved : SavedFrame) → ReadsKept one_page control.phase asked_state kept →
       Performs one_page (finish_row (reads_of one_page control.phase control.queue before kept saved) control.phase) before after (Left Exit.Ready) first_regs
   finish_performs kept saved reads =
       let reads_one : ReadsKept one_page (Asked 0) asked_state kept = subst (λ phase. ReadsKept one_page phase asked_state kept) is reads in
-      let same : first_regs ≡ kept.regs = same_regs asked_state program_frame kept first_words reads_one.1 (state_frame 3 0 program_bytes frame_size) reads_one.0 in
+      let same : first_regs ≡ kept.regs = same_regs asked_state program_frame kept first_words reads_one.1 (state_frame 3 0 0 program_bytes frame_size) reads_one.0 in
       subst (λ phase. Performs one_page (finish_row (reads_of one_page phase control.queue before kept saved) phase) before after (Left Exit.Ready) first_regs) (sym is)
       (subst (λ queue. Performs one_page (finish_row (reads_of one_page (Asked 0) queue before kept saved) (Asked 0)) before after (Left Exit.Ready) first_regs) (sym none_in)
       (subst (λ (regs : Regs). Performs one_page (finish_row (reads_of one_page (Asked 0) [] before (record kept { regs = regs }) saved) (Asked 0)) before after (Left Exit.Ready) first_regs) same (finishes kept saved)))

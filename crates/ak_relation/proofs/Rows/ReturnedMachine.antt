@@ -54,14 +54,14 @@ abbrev pub returned_regs : Regs
 returned_regs = with_reg after_regs rax 9
 
 abbrev returned_written : List Written
-returned_written = at_place 5 (state_with 1 0 kept_frame_bytes) ∷ []
+returned_written = at_place 5 (state_with 1 0 0 kept_frame_bytes) ∷ []
 
 -- the machine
 abbrev pub returned : State
 returned = gone_with answering returned_written returned_regs
 
 pub returned_whole : (g : ℕ) → length (returned.frames g) ≡ 4096
-returned_whole = over_whole (in_frames answering returned_written) answering.frames (state_whole 1 0 kept_frame_bytes kept_size, tt) answering_whole
+returned_whole = over_whole (in_frames answering returned_written) answering.frames (state_whole 1 0 0 kept_frame_bytes kept_size, tt) answering_whole
 
 abbrev granted : List Access
 granted = access_to 6 Exec ∷ access_to 5 Write ∷ []
@@ -87,7 +87,7 @@ changes = record {
 }
 
 abbrev calling_state : List ℕ
-calling_state = state_with 2 0 kept_frame_bytes
+calling_state = state_with 2 0 0 kept_frame_bytes
 
 abbrev before : ℕ → List ℕ
 before = bytes_of answering
@@ -109,30 +109,30 @@ kept_words =
 
 module _ (control : Control) (flat : Flat) (may : MayStep one_page control (Enter 0 9) flat (entry_regs one_page 0 9) (memory_of (holds_of held_pages) before)) where
   calling : control.phase ≡ Calling
-  calling = let state = may.state in phase_calling control.phase (sym (state_phase 2 0 kept_frame_bytes) ∙ state.phase_is)
+  calling = let state = may.state in phase_calling control.phase (sym (state_phase 2 0 0 kept_frame_bytes) ∙ state.phase_is)
 
   empty : control.queue ≡ []
-  empty = let state = may.state in no_queue control.queue (sym (state_size 2 0 kept_frame_bytes) ∙ state.size)
+  empty = let state = may.state in no_queue control.queue (sym (state_size 2 0 0 kept_frame_bytes) ∙ state.size)
 
   returns : (kept saved : SavedFrame) → Performs one_page (entry_row one_page (reads_of one_page Calling [] before (record kept { regs = after_regs }) saved) 0 9 Calling) before after Went returned_regs
   returns kept saved = record {
     ends = (refl, refl);
     state = record {
-      phase_is = state_phase 1 0 kept_frame_bytes;
+      phase_is = state_phase 1 0 0 kept_frame_bytes;
       more = tt;
-      size = state_size 1 0 kept_frame_bytes;
-      clusters = no_clusters (state_with 1 0 kept_frame_bytes);
-      frame_is = state_frame 1 0 kept_frame_bytes kept_size ∙ sym (state_frame 2 0 kept_frame_bytes kept_size);
+      size = state_size 1 0 0 kept_frame_bytes;
+      clusters = no_clusters (state_with 1 0 0 kept_frame_bytes);
+      frame_is = state_frame 1 0 0 kept_frame_bytes kept_size ∙ sym (state_frame 2 0 0 kept_frame_bytes kept_size);
     };
-    areas = all_areas (state_with 1 0 kept_frame_bytes) before;
-    others = λ p apart areas. state_alone (state_with 1 0 kept_frame_bytes) before p apart;
+    areas = all_areas (state_with 1 0 0 kept_frame_bytes) before;
+    others = λ p apart areas. state_alone (state_with 1 0 0 kept_frame_bytes) before p apart;
   }
 
   performs : (kept saved : SavedFrame) → ReadsKept one_page control.phase calling_state kept →
       Performs one_page (entry_row one_page (reads_of one_page control.phase control.queue before kept saved) 0 9 control.phase) before after Went returned_regs
   performs kept saved reads =
       let reads_one : ReadsKept one_page Calling calling_state kept = subst (λ phase. ReadsKept one_page phase calling_state kept) calling reads in
-      let same : after_regs ≡ kept.regs = same_regs calling_state kept_frame kept kept_words reads_one.1 (state_frame 2 0 kept_frame_bytes kept_size) reads_one.0 in
+      let same : after_regs ≡ kept.regs = same_regs calling_state kept_frame kept kept_words reads_one.1 (state_frame 2 0 0 kept_frame_bytes kept_size) reads_one.0 in
       subst (λ phase. Performs one_page (entry_row one_page (reads_of one_page phase control.queue before kept saved) 0 9 phase) before after Went returned_regs) (sym calling)
       (subst (λ queue. Performs one_page (entry_row one_page (reads_of one_page Calling queue before kept saved) 0 9 Calling) before after Went returned_regs) (sym empty)
       (subst (λ (regs : Regs). Performs one_page (entry_row one_page (reads_of one_page Calling [] before (record kept { regs = regs }) saved) 0 9 Calling) before after Went returned_regs) same (returns kept saved)))

@@ -55,7 +55,7 @@ stopping_whole = over_whole (at_place 2 one_saved ∷ []) broken.frames (one_sav
 
 -- STATE says that the enclave is dead, and the area has the guard's frame
 abbrev stopped_state : List ℕ
-stopped_state = state_with 6 1 program_bytes
+stopped_state = state_with 6 0 1 program_bytes
 
 abbrev stopped_written : List Written
 stopped_written = at_place 5 stopped_state ∷ at_place 2 (area_with guard_bytes) ∷ []
@@ -66,7 +66,7 @@ stopped = left_with stopping stopped_written
 
 stopped_whole : (g : ℕ) → length (stopped.frames g) ≡ 4096
 stopped_whole =
-    over_whole (in_frames stopping stopped_written) stopping.frames (state_whole 6 1 program_bytes frame_size, (area_whole guard_bytes guard_size, tt)) stopping_whole
+    over_whole (in_frames stopping stopped_written) stopping.frames (state_whole 6 0 1 program_bytes frame_size, (area_whole guard_bytes guard_size, tt)) stopping_whole
 
 abbrev granted : List Access
 granted = access_to 6 Exec ∷ access_to 5 Write ∷ access_to 2 Write ∷ []
@@ -111,11 +111,11 @@ stops : Performs one_page (entry_row one_page (reads_of one_page Running (0 ∷ 
 stops = record {
   ends = refl;
   state = record {
-    phase_is = state_phase 6 1 program_bytes;
+    phase_is = state_phase 6 0 1 program_bytes;
     more = tt;
-    size = state_size 6 1 program_bytes;
-    clusters = one_cluster 6 1 program_bytes;
-    frame_is = state_frame 6 1 program_bytes frame_size ∙ sym (state_frame 1 1 program_bytes frame_size);
+    size = state_size 6 0 1 program_bytes;
+    clusters = one_cluster 6 0 1 program_bytes;
+    frame_is = state_frame 6 0 1 program_bytes frame_size ∙ sym (state_frame 1 0 1 program_bytes frame_size);
   };
   areas = (guards, later_areas stopped_state (area_with guard_bytes) before);
   others = state_and_area stopped_state (area_with guard_bytes) before;
@@ -123,12 +123,12 @@ stops = record {
 
 module _ (control : Control) (flat : Flat) (may : MayStep one_page control (Enter 1 7) flat (entry_regs one_page 1 7) (memory_of (holds_of held_pages) before)) where
   running : control.phase ≡ Running
-  running = let state = may.state in phase_running control.phase (sym (state_phase 1 1 program_bytes) ∙ state.phase_is)
+  running = let state = may.state in phase_running control.phase (sym (state_phase 1 0 1 program_bytes) ∙ state.phase_is)
 
   full : control.queue ≡ 0 ∷ []
   full =
       let state = may.state in
-      one_queue control.queue (state_with 1 1 program_bytes) (sym (state_size 1 1 program_bytes) ∙ state.size) state.clusters (state_first 1 1 program_bytes)
+      one_queue control.queue (state_with 1 0 1 program_bytes) (sym (state_size 1 0 1 program_bytes) ∙ state.size) state.clusters (state_first 1 0 1 program_bytes)
 
   performs : (kept saved : SavedFrame) → ReadsSaved one_page before (Enter 1 7) saved →
       Performs one_page (entry_row one_page (reads_of one_page control.phase control.queue before kept saved) 1 7 control.phase) before after (Died its_cause) first_regs

@@ -138,9 +138,16 @@ answering_past = (Eenter (record { 0 = 0 }) 9, Ok) ∷ called_past
 abbrev pub returned_past : History
 returned_past = (Run (record { 0 = 0 }) 1, Answer.Exit Exit.Still) ∷ answering_past
 
--- and its next instruction traps
+-- and its next instruction raises a vector
+abbrev pub raised_past : History
+raised_past = (Run (record { 0 = 0 }) 1, Answer.Exit (Exit.Vector 6)) ∷ returned_past
+
+-- the processor enters again, and the runtime ends the program
+abbrev pub trapping_past : History
+trapping_past = (Eenter (record { 0 = 0 }) 7, Ok) ∷ raised_past
+
 abbrev pub trapped_past : History
-trapped_past = (Run (record { 0 = 0 }) 1, Answer.Exit (Exit.Vector 6)) ∷ returned_past
+trapped_past = (Run (record { 0 = 0 }) 1, Answer.Exit (Exit.Trapped 6)) ∷ trapping_past
 
 -- some machine went through these moves, with these events of the program
 abbrev pub IsReached : History → List Event → Type 0

@@ -1,6 +1,6 @@
 // Laws that the relation is reached: computed machines of an example.
 ghost use Rattle.ak_core.specs.declared.event.Event.TheVariants.{Break, Call, Miss, Trap};
-ghost use Rattle.ak_relation.specs.Relation.Example.{IsReached, asked_past, broken_past, built_past, called_past, computed_past, entered_past, faulted_past, input_program, interrupted_past, missed_past, one_page, ready_past, resumed_past, returned_past, stopped_past, trapped_past, written_past};
+ghost use Rattle.ak_relation.specs.Relation.Example.{IsReached, asked_past, broken_past, built_past, called_past, computed_past, entered_past, faulted_past, input_program, interrupted_past, missed_past, one_page, raised_past, ready_past, resumed_past, returned_past, stopped_past, trapped_past, written_past};
 ghost use Rattle.ak_relation.specs.Relation.Witnesses.{IsWitness, ShowsAsking, ShowsBreak, ShowsValue};
 ghost use Rattle.std.specs.Prelude.{[], ◌∷◌};
 
@@ -24,6 +24,7 @@ pub fn example_moments_are_reached()
     ensures stopped { IsReached stopped_past (Miss 0 0 ∷ Break 0 ∷ []) }
     ensures called { IsReached called_past (Call 3 2 0 ∷ []) }
     ensures returned { IsReached returned_past (Call 3 2 0 ∷ []) }
+    ensures raised { IsReached raised_past (Call 3 2 0 ∷ Trap 4 6 ∷ []) }
     ensures trapped { IsReached trapped_past (Call 3 2 0 ∷ Trap 4 6 ∷ []) }
 {}
 
