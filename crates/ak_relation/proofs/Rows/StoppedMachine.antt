@@ -1,4 +1,4 @@
--- The machine of the example after the runtime found that the program broke: the enclave is dead.
+-- The machine of the example after the runtime found that the program broke: the enclave is dead. And after the guard was resumed.
 use Rattle.std.proofs.Common.{◌≡◌, ℕ, zero, suc, ◌+◌, ◌*◌, ◌<◌, List, [], ◌∷◌, length, refl, sym, ◌∙◌, subst, arith}
 use Rattle.std.specs.Prelude.{None, Some, slice_get}
 use Rattle.ak_core.specs.Mem.{Access, access_to}
@@ -33,6 +33,21 @@ use Rattle.ak_relation.proofs.Rows.BrokenMachine.{broken, broken_whole, break_re
 use Rattle.ak_relation.proofs.Rows.StatePages.{state_with, state_whole, state_frame, state_phase, state_size, state_first, one_cluster}
 use Rattle.ak_relation.proofs.Rows.StepContexts.{phase_running, one_queue, entry_context}
 use Rattle.ak_relation.proofs.Rows.StepMemory.{later_areas, state_and_area, Written, at_place, over, over_whole, holds_of, bytes_of, in_frames, Changes, Steps, step_turn, left_with, entered_with, entered_move}
+use Rattle.std.proofs.Common.{◌-◌}
+use Rattle.std.specs.Prelude.{true, ◌^◌, ◌==◌, if◌then◌else◌}
+use Rattle.ak_core.specs.declared.moves.Move.TheVariants.{Eresume}
+use Rattle.ak_core.specs.declared.registers.Mode.{Mode}
+use Rattle.ak_model.specs.Flat.FlatRuns.{zeroed}
+use Rattle.ak_relation.specs.Bytes.Contexts.{step_address}
+use Rattle.ak_relation.specs.Bytes.SavedRegisters.{AreRegs}
+use Rattle.ak_relation.specs.State.MachineState.{Processor}
+use Rattle.ak_relation.specs.State.TrackSteps.{EntersBy}
+use Rattle.ak_relation.specs.Premises.EnterRows.{resume_row}
+use Rattle.ak_relation.specs.Premises.Resuming.{ResumesAt}
+use Rattle.ak_relation.specs.Relation.Example.{guarded_past}
+use Rattle.ak_relation.proofs.Entering.EnterMoves.{resume_moves}
+use Rattle.ak_relation.proofs.Entering.LoadedRegisters.{area_back}
+use Rattle.ak_relation.proofs.Rows.BlankPages.{blank, blank_at, blank_whole}
 
 -- ---- The entering
 
@@ -166,3 +181,63 @@ stop_reached = (stopping, Miss 0 0 ∷ Break 0 ∷ [], None, enter_reached, stop
 -- some machine is dead
 pub stopped_reached : IsReached stopped_past (Miss 0 0 ∷ Break 0 ∷ [])
 stopped_reached = (stopped, record { valid = page_valid; moves = stop_reached })
+
+-- ---- The guard resumed
+
+-- the processor, with the guard's registers
+abbrev guarding : Processor
+guarding = record { inside = true; regs = record (zeroed (step_address one_page 16)) { mode = Mode.Runtime }; tcs = 2; ssa = 3; fills = [] }
+
+-- the machine
+abbrev pub guarded : State
+guarded = record stopped {
+  frames = over (at_place 2 blank ∷ []) stopped.frames;
+  processors = λ lp. if lp == 0 then guarding else stopped.processors lp;
+  track = EntersBy 0 ∷ stopped.track;
+}
+
+guard_words : AreRegs guarding.regs
+guard_words =
+    let zero : 0 < 2 ^ 64 = omega arith in
+    record {
+      sixteen = refl;
+      words = (zero, (zero, (zero, (zero, (zero, (zero, (zero, (zero, (zero, (zero, (zero, (zero, (zero, (zero, (zero, (zero, tt))))))))))))))));
+      rip = omega arith;
+    }
+
+resumes : ResumesAt one_page 0 0 stopped guarded
+resumes = record {
+  inside = refl;
+  regs = sym (area_back one_page (area_with guard_bytes) (guard_frame one_page) guard_words (area_has guard_bytes guard_size));
+  tcs = refl;
+  ssa = refl;
+  flushed = refl;
+  others = λ q e. rw e refl;
+  counted = record { saved_is = blank_at 24 4; pending_is = blank_at 72 1 };
+  frames = λ g e. rw e refl;
+  whole = over_whole (at_place 2 blank ∷ []) stopped.frames (blank_whole, tt) stopped_whole;
+  track = refl;
+  entries = refl;
+  count = refl;
+  queue = refl;
+  stamps = refl;
+  sealed_pages = refl;
+  next = refl;
+  table = refl;
+}
+
+resume_answered : resume_row one_page stopped 0 ≡ Ok
+unfolding one_saved
+resume_answered = refl
+
+resume_move : IsMove one_page stopped guarded (Eresume (record { 0 = 0 })) Ok None
+resume_move =
+    resume_moves one_page refl stopped (record { 0 = 0 }) guarded resume_answered
+    (subst (λ n. ResumesAt one_page 0 (n - 1) stopped guarded) (sym one_saved_at) resumes)
+
+guard_reached : AreMoves one_page input_program guarded_past guarded (Miss 0 0 ∷ Break 0 ∷ [])
+guard_reached = (stopped, Miss 0 0 ∷ Break 0 ∷ [], None, stop_reached, resume_move, refl)
+
+-- in some machine the guard is inside
+pub guarded_reached : IsReached guarded_past (Miss 0 0 ∷ Break 0 ∷ [])
+guarded_reached = (guarded, record { valid = page_valid; moves = guard_reached })

@@ -127,6 +127,10 @@ stopping_past = (Eenter (record { 0 = 0 }) 7, Ok) ∷ broken_past
 abbrev pub stopped_past : History
 stopped_past = (Run (record { 0 = 0 }) 1, Answer.Exit Exit.Stopped) ∷ stopping_past
 
+-- the kernel resumes what was saved, which is the guard
+abbrev pub guarded_past : History
+guarded_past = (Eresume (record { 0 = 0 }), Ok) ∷ stopped_past
+
 -- or, after the first instruction, four turns more: two instructions, the call, and the runtime's step that leaves with it
 abbrev pub called_past : History
 called_past = (Run (record { 0 = 0 }) 4, Answer.Exit (Exit.Call 2 0)) ∷ computed_past
