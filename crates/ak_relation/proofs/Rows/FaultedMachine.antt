@@ -1,6 +1,6 @@
 -- The machine of the example after the kernel entered without mapping the page that was asked for: the runtime's probe faults, and a
 -- second context is saved.
-use Rattle.std.proofs.Common.{◌≡◌, ℕ, ◌+◌, ◌<◌, List, [], ◌∷◌, ◌++◌, length, refl, ap, sym, ◌∙◌, subst, arith}
+use Rattle.std.proofs.Common.{◌≡◌, ℕ, ◌<◌, List, [], ◌∷◌, ◌++◌, length, refl, ap, sym, ◌∙◌, subst, arith}
 use Rattle.std.specs.Prelude.{Bool, true, ◌^◌, None, Some}
 use Rattle.ak_core.specs.Mem.{Access, access_to}
 use Rattle.ak_core.specs.declared.event.Event.TheVariants.{Miss}
@@ -8,7 +8,7 @@ use Rattle.ak_core.specs.declared.page.Kind.TheVariants.{Write, Exec}
 use Rattle.ak_core.specs.declared.moves.Move.TheVariants.{Run, Eenter}
 use Rattle.ak_core.specs.declared.moves.Answer.{Answer}
 use Rattle.ak_core.specs.declared.moves.Answer.TheVariants.{Ok}
-use Rattle.ak_model.specs.Control.ControlState.{Asked, Context, Control}
+use Rattle.ak_model.specs.Control.ControlState.{Context, Control}
 use Rattle.ak_model.specs.Control.RuntimeTurn.{accesses, probed, shown_fault}
 use Rattle.ak_model.specs.Flat.FlatRuns.{Flat}
 use Rattle.ak_relation.specs.Bytes.SavedFrames.{ByPage, frame_bytes}
@@ -28,7 +28,7 @@ use Rattle.ak_relation.proofs.Rows.StartedMachine.{fetch}
 use Rattle.ak_relation.proofs.Rows.AskedMachine.{asked, asked_whole, ask_reached}
 use Rattle.ak_relation.proofs.Rows.FetchedMachine.{asks, entry_granted, entry_pages, entry_steps}
 use Rattle.ak_relation.proofs.Rows.StepContexts.{step_regs, probe_context}
-use Rattle.ak_relation.proofs.Rows.StepMemory.{at_place, over, over_whole, holds_of, bytes_of, Changes, step_turn, refused_turn, gone_with, entered_with, entered_move, saved_bytes, saved_with, saves_with}
+use Rattle.ak_relation.proofs.Rows.StepMemory.{at_place, over_whole, holds_of, bytes_of, Changes, step_turn, refused_turn, gone_with, entered_with, entered_move, saved_bytes, saved_with, saves_with}
 
 -- ---- The entering
 

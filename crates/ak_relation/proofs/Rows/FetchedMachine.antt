@@ -21,7 +21,7 @@ use Rattle.ak_relation.specs.State.MachineState.{State}
 use Rattle.ak_relation.specs.State.TableChanges.{with_mapping}
 use Rattle.ak_relation.specs.Premises.EnterRows.{enter_row}
 use Rattle.ak_relation.specs.Premises.Rows.{entry_row, finish_row}
-use Rattle.ak_relation.specs.Premises.StepsTo.{Went, Left, Performs, ReadsKept, reads_of, MayStep, StepsTo, memory_of}
+use Rattle.ak_relation.specs.Premises.StepsTo.{Went, Left, Performs, ReadsKept, reads_of, StepsTo}
 use Rattle.ak_relation.specs.Relation.Does.{IsTurn, IsMove}
 use Rattle.ak_relation.specs.Relation.MoveByMove.{AreMoves}
 use Rattle.ak_relation.specs.Relation.Example.{one_page, input_program, restored_past, probing_past, ready_past, IsReached}
@@ -34,7 +34,7 @@ use Rattle.ak_relation.proofs.Rows.MissedMachine.{program_frame, frame_size}
 use Rattle.ak_relation.proofs.Rows.AskedMachine.{program_bytes, asked, asked_whole, first_words, ask_reached}
 use Rattle.ak_relation.proofs.Rows.StatePages.{state_with, state_whole, state_frame, state_phase, state_more, state_size, one_cluster}
 use Rattle.ak_relation.proofs.Rows.StepContexts.{phase_asked, no_queue, step_regs, entry_context, probe_context, finish_context, same_regs}
-use Rattle.ak_relation.proofs.Rows.StepMemory.{later_areas, state_and_area, Written, at_place, over, over_whole, holds_of, bytes_of, in_frames, Changes, Steps, step_turn, left_with, gone_with, entered_with, entered_move}
+use Rattle.ak_relation.proofs.Rows.StepMemory.{later_areas, state_and_area, Written, at_place, over, over_whole, bytes_of, in_frames, Changes, Steps, step_turn, left_with, gone_with, entered_with, entered_move}
 
 -- ---- The page table, and the entering
 

@@ -1,6 +1,6 @@
 -- The machine of the example after the runtime found that the program broke: the enclave is dead. And after the guard was resumed.
-use Rattle.std.proofs.Common.{◌≡◌, ℕ, zero, suc, ◌+◌, ◌*◌, ◌<◌, List, [], ◌∷◌, length, refl, sym, ◌∙◌, subst, arith}
-use Rattle.std.specs.Prelude.{None, Some, slice_get}
+use Rattle.std.proofs.Common.{◌≡◌, ℕ, zero, suc, ◌<◌, List, [], ◌∷◌, length, refl, sym, ◌∙◌, subst, arith}
+use Rattle.std.specs.Prelude.{None, Some}
 use Rattle.ak_core.specs.Mem.{Access, access_to}
 use Rattle.ak_core.specs.declared.event.Event.TheVariants.{Miss, Break}
 use Rattle.ak_core.specs.declared.event.StopCause.{StopCause}
@@ -18,7 +18,7 @@ use Rattle.ak_relation.specs.Bytes.Contexts.{entry_regs}
 use Rattle.ak_relation.specs.State.MachineState.{State}
 use Rattle.ak_relation.specs.Premises.EnterRows.{enter_row}
 use Rattle.ak_relation.specs.Premises.Rows.{guard_frame, entry_row}
-use Rattle.ak_relation.specs.Premises.StepsTo.{Outcome, Died, Performs, ReadsSaved, reads_of, MayStep, StepsTo, memory_of}
+use Rattle.ak_relation.specs.Premises.StepsTo.{Died, Performs, ReadsSaved, reads_of, MayStep, StepsTo, memory_of}
 use Rattle.ak_relation.specs.Relation.Does.{IsTurn, IsMove}
 use Rattle.ak_relation.specs.Relation.MoveByMove.{AreMoves}
 use Rattle.ak_relation.specs.Relation.Example.{one_page, input_program, stopping_past, stopped_past, IsReached}
@@ -149,7 +149,7 @@ module _ (control : Control) (flat : Flat) (may : MayStep one_page control (Ente
       Performs one_page (entry_row one_page (reads_of one_page control.phase control.queue before kept saved) 1 7 control.phase) before after (Died its_cause) first_regs
   performs kept saved reads =
       let same : program_frame ≡ saved =
-          same_frame one_page room area_place (area_with program_bytes) program_frame saved program_fits reads.1 (area_has program_bytes frame_size) reads.0 in
+      same_frame one_page room area_place (area_with program_bytes) program_frame saved program_fits reads.1 (area_has program_bytes frame_size) reads.0 in
       subst (λ phase. Performs one_page (entry_row one_page (reads_of one_page phase control.queue before kept saved) 1 7 phase) before after (Died its_cause) first_regs) (sym running)
       (subst (λ queue. Performs one_page (entry_row one_page (reads_of one_page Running queue before kept saved) 1 7 Running) before after (Died its_cause) first_regs) (sym full)
       (subst (λ frame. Performs one_page (entry_row one_page (reads_of one_page Running (0 ∷ []) before kept frame) 1 7 Running) before after (Died its_cause) first_regs) same stops))

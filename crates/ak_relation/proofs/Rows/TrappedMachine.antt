@@ -223,7 +223,7 @@ module _ (control : Control) (flat : Flat) (may : MayStep one_page control (Ente
       Performs one_page (entry_row one_page (reads_of one_page control.phase control.queue before kept saved) 1 7 control.phase) before after (Left (Exit.Trapped 6)) first_regs
   performs kept saved reads =
       let same : raised_frame ≡ saved =
-          same_frame one_page room area_place (area_with raised_bytes) raised_frame saved raised_fits reads.1 (area_has raised_bytes frame_size) reads.0 in
+      same_frame one_page room area_place (area_with raised_bytes) raised_frame saved raised_fits reads.1 (area_has raised_bytes frame_size) reads.0 in
       subst (λ phase. Performs one_page (entry_row one_page (reads_of one_page phase control.queue before kept saved) 1 7 phase) before after (Left (Exit.Trapped 6)) first_regs) (sym running)
       (subst (λ queue. Performs one_page (entry_row one_page (reads_of one_page Running queue before kept saved) 1 7 Running) before after (Left (Exit.Trapped 6)) first_regs) (sym empty)
       (subst (λ frame. Performs one_page (entry_row one_page (reads_of one_page Running [] before kept frame) 1 7 Running) before after (Left (Exit.Trapped 6)) first_regs) same (ends kept)))
