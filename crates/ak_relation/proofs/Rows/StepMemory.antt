@@ -15,11 +15,12 @@ use Rattle.ak_model.specs.Paging.Holdings.{PageFrame}
 use Rattle.ak_model.specs.Paging.Frames.{held}
 use Rattle.ak_model.specs.Flat.FlatRuns.{Flat}
 use Rattle.ak_model.specs.Control.ControlState.{Context, Control}
+use Rattle.ak_model.specs.Control.RuntimeTurn.{accesses, shown_fault}
+use Rattle.ak_model.specs.Laws.Orderly.{after_miss_if}
 use Rattle.ak_epcm.specs.Entries.{entry_at}
 use Rattle.ak_relation.specs.Bytes.SavedFrames.{SavedCause, ByPage, frame_bytes, area_place, HasFrame}
 use Rattle.ak_relation.specs.Bytes.FramesFit.{CauseFits}
 use Rattle.ak_relation.specs.Bytes.SavedRegisters.{AreRegs}
-use Rattle.ak_model.specs.Control.RuntimeTurn.{accesses, shown_fault}
 use Rattle.ak_relation.specs.Bytes.Contexts.{entry_regs}
 use Rattle.ak_relation.specs.Bytes.Pages.{IsTcs}
 use Rattle.ak_relation.specs.State.MachineState.{Processor, State}
@@ -29,7 +30,6 @@ use Rattle.ak_relation.specs.State.TrackSteps.{EntersBy, LeavesBy}
 use Rattle.ak_relation.specs.Premises.EnterRows.{walk_in, saved_in, enter_row}
 use Rattle.ak_relation.specs.Premises.Entering.{EntersAt}
 use Rattle.ak_relation.specs.Premises.Saving.{missed_in, Saves}
-use Rattle.ak_model.specs.Laws.Orderly.{after_miss_if}
 use Rattle.ak_relation.specs.Premises.StepsTo.{Outcome, Refused, MayStep, StepsTo, memory_of}
 use Rattle.ak_relation.specs.Premises.Works.{AreFound, WritesFrames, Ends, exit_of}
 use Rattle.ak_relation.specs.Premises.Shows.{MemorySees, StepLeaves, ShowsStep}

@@ -1,30 +1,34 @@
 -- The machine of the example after the runtime found that the program broke: the enclave is dead. And after the guard was resumed.
-use Rattle.std.proofs.Common.{◌≡◌, ℕ, zero, suc, ◌<◌, List, [], ◌∷◌, length, refl, sym, ◌∙◌, subst, arith}
-use Rattle.std.specs.Prelude.{None, Some}
+use Rattle.std.proofs.Common.{◌≡◌, ℕ, zero, suc, ◌<◌, List, [], ◌∷◌, length, refl, sym, ◌∙◌, subst, arith, ◌-◌}
+use Rattle.std.specs.Prelude.{None, Some, true, ◌^◌, ◌==◌, if◌then◌else◌}
 use Rattle.ak_core.specs.Mem.{Access, access_to}
 use Rattle.ak_core.specs.declared.event.Event.TheVariants.{Miss, Break}
 use Rattle.ak_core.specs.declared.event.StopCause.{StopCause}
 use Rattle.ak_core.specs.declared.event.StopCause.TheVariants.{Unmapped}
 use Rattle.ak_core.specs.declared.page.Kind.TheVariants.{Write, Exec}
-use Rattle.ak_core.specs.declared.moves.Move.TheVariants.{Run, Eenter}
+use Rattle.ak_core.specs.declared.moves.Move.TheVariants.{Run, Eenter, Eresume}
 use Rattle.ak_core.specs.declared.moves.Answer.{Answer}
 use Rattle.ak_core.specs.declared.moves.Answer.TheVariants.{Ok}
 use Rattle.ak_core.specs.declared.moves.Exit.{Exit}
+use Rattle.ak_core.specs.declared.registers.Mode.{Mode}
 use Rattle.ak_model.specs.Paging.Pages.{ssa_page}
-use Rattle.ak_model.specs.Flat.FlatRuns.{Flat}
+use Rattle.ak_model.specs.Flat.FlatRuns.{Flat, zeroed}
 use Rattle.ak_model.specs.Control.ControlState.{Running, Context, Enter, Control}
 use Rattle.ak_relation.specs.Bytes.SavedFrames.{SavedFrame, area_place, HasFrame}
-use Rattle.ak_relation.specs.Bytes.Contexts.{entry_regs}
-use Rattle.ak_relation.specs.State.MachineState.{State}
-use Rattle.ak_relation.specs.Premises.EnterRows.{enter_row}
+use Rattle.ak_relation.specs.Bytes.Contexts.{entry_regs, step_address}
+use Rattle.ak_relation.specs.Bytes.SavedRegisters.{AreRegs}
+use Rattle.ak_relation.specs.State.MachineState.{State, Processor}
+use Rattle.ak_relation.specs.State.TrackSteps.{EntersBy}
+use Rattle.ak_relation.specs.Premises.EnterRows.{enter_row, resume_row}
 use Rattle.ak_relation.specs.Premises.Rows.{guard_frame, entry_row}
 use Rattle.ak_relation.specs.Premises.StepsTo.{Died, Performs, ReadsSaved, reads_of, MayStep, StepsTo, memory_of}
+use Rattle.ak_relation.specs.Premises.Resuming.{ResumesAt}
 use Rattle.ak_relation.specs.Relation.Does.{IsTurn, IsMove}
 use Rattle.ak_relation.specs.Relation.MoveByMove.{AreMoves}
-use Rattle.ak_relation.specs.Relation.Example.{one_page, input_program, stopping_past, stopped_past, IsReached}
+use Rattle.ak_relation.specs.Relation.Example.{one_page, input_program, stopping_past, stopped_past, IsReached, guarded_past}
 use Rattle.ak_relation.proofs.Bytes.FramesReturn.{same_frame}
 use Rattle.ak_relation.proofs.Runs.WholeRuns.{exit_moves}
-use Rattle.ak_relation.proofs.Rows.BlankPages.{one_saved, one_saved_whole, one_saved_at, none_refused, one_refused, refused_saved, area_with, area_whole, area_has}
+use Rattle.ak_relation.proofs.Rows.BlankPages.{one_saved, one_saved_whole, one_saved_at, none_refused, one_refused, refused_saved, area_with, area_whole, area_has, blank, blank_at, blank_whole}
 use Rattle.ak_relation.proofs.Rows.BuiltMachine.{page_valid}
 use Rattle.ak_relation.proofs.Rows.StartedMachine.{first_regs}
 use Rattle.ak_relation.proofs.Rows.MissedMachine.{program_frame, frame_size}
@@ -33,21 +37,8 @@ use Rattle.ak_relation.proofs.Rows.BrokenMachine.{broken, broken_whole, break_re
 use Rattle.ak_relation.proofs.Rows.StatePages.{state_with, state_whole, state_frame, state_phase, state_size, state_first, one_cluster}
 use Rattle.ak_relation.proofs.Rows.StepContexts.{phase_running, one_queue, entry_context}
 use Rattle.ak_relation.proofs.Rows.StepMemory.{later_areas, state_and_area, Written, at_place, over, over_whole, holds_of, bytes_of, in_frames, Changes, Steps, step_turn, left_with, entered_with, entered_move}
-use Rattle.std.proofs.Common.{◌-◌}
-use Rattle.std.specs.Prelude.{true, ◌^◌, ◌==◌, if◌then◌else◌}
-use Rattle.ak_core.specs.declared.moves.Move.TheVariants.{Eresume}
-use Rattle.ak_core.specs.declared.registers.Mode.{Mode}
-use Rattle.ak_model.specs.Flat.FlatRuns.{zeroed}
-use Rattle.ak_relation.specs.Bytes.Contexts.{step_address}
-use Rattle.ak_relation.specs.Bytes.SavedRegisters.{AreRegs}
-use Rattle.ak_relation.specs.State.MachineState.{Processor}
-use Rattle.ak_relation.specs.State.TrackSteps.{EntersBy}
-use Rattle.ak_relation.specs.Premises.EnterRows.{resume_row}
-use Rattle.ak_relation.specs.Premises.Resuming.{ResumesAt}
-use Rattle.ak_relation.specs.Relation.Example.{guarded_past}
 use Rattle.ak_relation.proofs.Entering.EnterMoves.{resume_moves}
 use Rattle.ak_relation.proofs.Entering.LoadedRegisters.{area_back}
-use Rattle.ak_relation.proofs.Rows.BlankPages.{blank, blank_at, blank_whole}
 
 -- ---- The entering
 

@@ -1,51 +1,42 @@
 -- The machine of the example after an instruction of the program that is undefined, which raises a vector; and after the runtime ended the
 -- program by it.
-use Rattle.std.proofs.Common.{◌≡◌, ◌≢◌, ℕ, [], ◌∷◌, drop, refl, ap, sym, ◌∙◌, arith}
-use Rattle.std.specs.Prelude.{true, None, Some}
+use Rattle.std.proofs.Common.{◌≡◌, ◌≢◌, ℕ, [], ◌∷◌, drop, refl, ap, sym, ◌∙◌, arith, length, zero, suc, List, ◌<◌, subst}
+use Rattle.std.specs.Prelude.{true, None, Some, ◌^◌}
 use Rattle.ak_core.specs.declared.event.Event.TheVariants.{Call, Trap}
-use Rattle.ak_core.specs.declared.page.Kind.TheVariants.{Exec}
-use Rattle.ak_core.specs.declared.moves.Move.TheVariants.{Run}
+use Rattle.ak_core.specs.declared.page.Kind.TheVariants.{Exec, Write}
+use Rattle.ak_core.specs.declared.moves.Move.TheVariants.{Run, Eenter}
 use Rattle.ak_core.specs.declared.moves.Answer.{Answer}
 use Rattle.ak_core.specs.declared.moves.Exit.{Exit}
 use Rattle.ak_core.specs.declared.registers.Regs.{Regs}
+use Rattle.ak_core.specs.Mem.{Access, access_to}
+use Rattle.ak_core.specs.declared.moves.Answer.TheVariants.{Ok}
 use Rattle.ak_model.specs.Flat.Encodings.{decode}
 use Rattle.ak_model.specs.Flat.FlatRuns.{Flat, End, line_of, in_first_page, line, end_of, page_bytes}
 use Rattle.ak_model.specs.Misses.Reached.{permitted_accesses}
 use Rattle.ak_model.specs.Misses.KeptTranslations.{is_among}
-use Rattle.ak_relation.specs.Bytes.SavedFrames.{ByVector}
+use Rattle.ak_model.specs.Paging.Pages.{ssa_page}
+use Rattle.ak_model.specs.Control.ControlState.{Running, Context, Enter, Control}
+use Rattle.ak_relation.specs.Bytes.SavedFrames.{ByVector, frame_bytes, SavedFrame, area_place, HasFrame}
+use Rattle.ak_relation.specs.Bytes.FramesFit.{FrameFits}
+use Rattle.ak_relation.specs.Bytes.Contexts.{entry_regs}
 use Rattle.ak_relation.specs.Program.Seeing.{Sees}
 use Rattle.ak_relation.specs.State.MachineState.{State}
 use Rattle.ak_relation.specs.Premises.Faulting.{Traps}
 use Rattle.ak_relation.specs.Premises.Saving.{Saves}
+use Rattle.ak_relation.specs.Premises.EnterRows.{enter_row}
+use Rattle.ak_relation.specs.Premises.Rows.{guard_frame, entry_row}
+use Rattle.ak_relation.specs.Premises.StepsTo.{Left, Performs, ReadsSaved, reads_of, MayStep, StepsTo, memory_of}
 use Rattle.ak_relation.specs.Relation.Does.{IsTurn, IsMove}
 use Rattle.ak_relation.specs.Relation.MoveByMove.{AreMoves}
 use Rattle.ak_relation.specs.Relation.Example.{one_page, input_program, raised_past, trapping_past, trapped_past, IsReached}
 use Rattle.ak_relation.proofs.Exits.ExitTurns.{vector_turns}
 use Rattle.ak_relation.proofs.Runs.WholeRuns.{exit_moves}
-use Rattle.ak_relation.proofs.Rows.BlankPages.{one_refused, one_refused_whole, refused_saved, refused_flag}
+use Rattle.ak_relation.proofs.Rows.BlankPages.{one_refused, one_refused_whole, refused_saved, refused_flag, one_saved, one_saved_whole, one_saved_at, none_refused, area_with, area_whole, area_has}
 use Rattle.ak_relation.proofs.Rows.BuiltMachine.{page_valid}
-use Rattle.ak_relation.proofs.Rows.StartedMachine.{fetch}
+use Rattle.ak_relation.proofs.Rows.StartedMachine.{fetch, first_regs}
 use Rattle.ak_relation.proofs.Rows.ReturnedMachine.{returned_regs, returned, returned_whole, return_reached}
 use Rattle.ak_relation.proofs.Rows.StepMemory.{saved_bytes, saved_with, saved_whole, saves_with, later_areas, state_and_area, Written, at_place, over, over_whole, holds_of, bytes_of, in_frames, Changes, Steps, step_turn, left_with, entered_with, entered_move}
-use Rattle.std.proofs.Common.{length}
-use Rattle.ak_relation.specs.Bytes.SavedFrames.{frame_bytes}
-use Rattle.std.proofs.Common.{zero, suc, List, ◌<◌, subst}
-use Rattle.std.specs.Prelude.{◌^◌}
-use Rattle.ak_core.specs.Mem.{Access, access_to}
-use Rattle.ak_core.specs.declared.page.Kind.TheVariants.{Write}
-use Rattle.ak_core.specs.declared.moves.Move.TheVariants.{Eenter}
-use Rattle.ak_core.specs.declared.moves.Answer.TheVariants.{Ok}
-use Rattle.ak_model.specs.Paging.Pages.{ssa_page}
-use Rattle.ak_model.specs.Control.ControlState.{Running, Context, Enter, Control}
-use Rattle.ak_relation.specs.Bytes.SavedFrames.{SavedFrame, area_place, HasFrame}
-use Rattle.ak_relation.specs.Bytes.FramesFit.{FrameFits}
-use Rattle.ak_relation.specs.Bytes.Contexts.{entry_regs}
-use Rattle.ak_relation.specs.Premises.EnterRows.{enter_row}
-use Rattle.ak_relation.specs.Premises.Rows.{guard_frame, entry_row}
-use Rattle.ak_relation.specs.Premises.StepsTo.{Left, Performs, ReadsSaved, reads_of, MayStep, StepsTo, memory_of}
 use Rattle.ak_relation.proofs.Bytes.FramesReturn.{same_frame}
-use Rattle.ak_relation.proofs.Rows.BlankPages.{one_saved, one_saved_whole, one_saved_at, none_refused, area_with, area_whole, area_has}
-use Rattle.ak_relation.proofs.Rows.StartedMachine.{first_regs}
 use Rattle.ak_relation.proofs.Rows.AskedMachine.{guard_bytes, guard_size, room}
 use Rattle.ak_relation.proofs.Rows.CalledMachine.{kept_frame_bytes, kept_size}
 use Rattle.ak_relation.proofs.Rows.StatePages.{state_with, state_whole, state_frame, state_phase, state_status, state_size, no_clusters}
