@@ -11,9 +11,6 @@ use Rattle.ak_core.specs.declared.moves.Exit.{Exit}
 use Rattle.ak_model.specs.Paging.Pages.{ssa_page}
 use Rattle.ak_model.specs.Flat.FlatRuns.{Flat}
 use Rattle.ak_model.specs.Control.ControlState.{Running, Context, Enter, Control}
-use Rattle.ak_relation.specs.Bytes.SavedFrames.{SavedFrame, frame_bytes, area_place, HasFrame}
-use Rattle.ak_relation.specs.Bytes.SavedRegisters.{AreRegs}
-use Rattle.ak_relation.specs.Bytes.FramesFit.{FrameFits, HasRoom}
 use Rattle.ak_relation.specs.Bytes.Contexts.{entry_regs}
 use Rattle.ak_relation.specs.State.MachineState.{State}
 use Rattle.ak_relation.specs.Premises.EnterRows.{enter_row}
@@ -22,7 +19,10 @@ use Rattle.ak_relation.specs.Premises.StepsTo.{Left, Performs, ReadsSaved, reads
 use Rattle.ak_relation.specs.Relation.Does.{IsTurn, IsMove}
 use Rattle.ak_relation.specs.Relation.MoveByMove.{AreMoves}
 use Rattle.ak_relation.specs.Relation.Example.{one_page, input_program, handling_past, asked_past, IsReached}
-use Rattle.ak_relation.proofs.Bytes.FramesReturn.{same_frame}
+use Rattle.ak_ssa.specs.SavedFrames.{SavedFrame, frame_bytes, area_place, HasFrame}
+use Rattle.ak_ssa.specs.SavedRegisters.{AreRegs}
+use Rattle.ak_ssa.specs.FramesFit.{FrameFits, HasRoom}
+use Rattle.ak_ssa.proofs.FramesReturn.{same_frame}
 use Rattle.ak_relation.proofs.Runs.WholeRuns.{exit_moves}
 use Rattle.ak_relation.proofs.Rows.BlankPages.{one_saved, one_saved_whole, one_saved_at, none_refused, one_refused, refused_saved, slot_number, same_kept, area_with, area_whole, area_has}
 use Rattle.ak_relation.proofs.Rows.BuiltMachine.{page_valid}

@@ -2,8 +2,7 @@
 use Rattle.std.proofs.Common.{◌≡◌, ℕ, zero, suc, ◌+◌, ◌-◌, ◌*◌, List, ◌∷◌, ◌++◌, length, take, drop, refl, ap, sym, ◌∙◌, arith}
 use Rattle.std.proofs.lemmas.List.{length-replicate, drop-replicate, length-append, drop_at, take_all}
 use Rattle.std.specs.Prelude.{false, replicate, ◌==◌}
-use Rattle.ak_model.specs.Flat.Instructions.{le_value}
-use Rattle.ak_relation.specs.Bytes.SavedFrames.{number_at}
+use Rattle.ak_model.specs.Flat.Instructions.{le_value, number_at}
 
 -- a page of zeros
 unfoldable pub blank : List ℕ

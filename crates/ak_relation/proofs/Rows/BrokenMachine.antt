@@ -8,11 +8,9 @@ use Rattle.ak_core.specs.declared.moves.Answer.TheVariants.{Ok}
 use Rattle.ak_model.specs.Paging.Pages.{no_flags}
 use Rattle.ak_model.specs.Control.RuntimeTurn.{shown_fault}
 use Rattle.ak_model.specs.Flat.FlatRuns.{Flat}
-use Rattle.ak_relation.specs.Bytes.SavedFrames.{ByPage}
 use Rattle.ak_relation.specs.Program.Seeing.{Sees}
 use Rattle.ak_relation.specs.State.MachineState.{State}
 use Rattle.ak_relation.specs.State.TableChanges.{with_mapping}
-use Rattle.ak_relation.specs.State.TrackSteps.{EntersBy}
 use Rattle.ak_relation.specs.Premises.EnterRows.{resume_row}
 use Rattle.ak_relation.specs.Premises.Resuming.{ResumesAt}
 use Rattle.ak_relation.specs.Premises.Faulting.{Faults}
@@ -23,7 +21,9 @@ use Rattle.ak_relation.specs.Relation.Example.{one_page, input_program, continue
 use Rattle.ak_relation.proofs.Exits.ExitTurns.{break_turns}
 use Rattle.ak_relation.proofs.Leaves.DoneMoves.{set_pte_moves}
 use Rattle.ak_relation.proofs.Entering.EnterMoves.{resume_moves}
-use Rattle.ak_relation.proofs.Entering.LoadedRegisters.{area_back}
+use Rattle.ak_ssa.specs.SavedFrames.{ByPage}
+use Rattle.ak_track.specs.Steps.{EntersBy}
+use Rattle.ak_ssa.proofs.RegistersReturn.{area_back}
 use Rattle.ak_relation.proofs.Runs.WholeRuns.{exit_moves}
 use Rattle.ak_relation.proofs.Rows.BlankPages.{blank, blank_at, blank_whole, one_saved, one_saved_at, area_with, area_has, one_refused, one_refused_whole, refused_saved, refused_flag}
 use Rattle.ak_relation.proofs.Rows.BuiltMachine.{page_valid}

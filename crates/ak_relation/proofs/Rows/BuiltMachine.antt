@@ -18,10 +18,11 @@ use Rattle.ak_model.specs.Flat.FlatRuns.{zeroed, page_bytes}
 use Rattle.ak_model.proofs.Paging.OneCopy.{one_copy}
 use Rattle.ak_epcm.specs.Entries.{entry_at}
 use Rattle.ak_walk.specs.Agrees.{EntryAgrees}
-use Rattle.ak_relation.specs.Bytes.SavedFrames.{number_at}
 use Rattle.ak_relation.specs.Program.FlatFits.{AreBytes}
-use Rattle.ak_relation.specs.State.MachineState.{SealedPage, Processor, State, OfCopy}
-use Rattle.ak_relation.specs.State.Tables.{version, SealedPageAgrees, TablesStand}
+use Rattle.ak_relation.specs.State.MachineState.{Processor, State, OfCopy}
+use Rattle.ak_model.specs.Flat.Instructions.{number_at}
+use Rattle.ak_sealed.specs.SealedPages.{SealedPage, version}
+use Rattle.ak_relation.specs.State.Tables.{SealedPageAgrees, TablesStand}
 use Rattle.ak_relation.specs.Premises.Built.{first_state, IsBuilt}
 use Rattle.ak_relation.specs.Relation.Stands.{copies_at}
 use Rattle.ak_relation.specs.Relation.Example.{one_page, input_program, built_past, IsReached}

@@ -15,9 +15,9 @@ use Rattle.ak_model.specs.Flat.Instructions.{with_reg, rax, rcx, rdi}
 use Rattle.ak_model.specs.Flat.FlatRuns.{Flat, End, line_of, in_first_page, line, end_of, page_bytes}
 use Rattle.ak_model.specs.Control.ControlState.{Context, Leave, Control}
 use Rattle.ak_model.specs.Misses.KeptTranslations.{is_among, same_access}
-use Rattle.ak_relation.specs.Bytes.SavedFrames.{SavedFrame, frame_bytes}
 use Rattle.ak_relation.specs.Bytes.Contexts.{step_address}
 use Rattle.ak_relation.specs.Bytes.Pages.{IsState}
+use Rattle.ak_ssa.specs.SavedFrames.{SavedFrame, frame_bytes}
 use Rattle.ak_relation.specs.State.MachineState.{State}
 use Rattle.ak_relation.specs.Program.Reaching.{is_filled}
 use Rattle.ak_relation.specs.Program.Seeing.{Sees}

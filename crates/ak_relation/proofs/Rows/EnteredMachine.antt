@@ -5,11 +5,11 @@ use Rattle.ak_core.specs.declared.page.Lp.{Lp}
 use Rattle.ak_core.specs.declared.moves.Move.TheVariants.{Eenter, Interrupt}
 use Rattle.ak_core.specs.declared.moves.Answer.TheVariants.{Ok}
 use Rattle.ak_core.specs.declared.registers.Regs.{Regs}
-use Rattle.ak_relation.specs.Bytes.SavedFrames.{NoCause, SavedFrame, frame_bytes}
-use Rattle.ak_relation.specs.Bytes.SavedRegisters.{AreRegs}
 use Rattle.ak_relation.specs.Bytes.Contexts.{entry_regs}
 use Rattle.ak_relation.specs.Bytes.Pages.{IsTcs, flag_number}
-use Rattle.ak_relation.specs.State.TrackSteps.{EntersBy, LeavesBy}
+use Rattle.ak_ssa.specs.SavedFrames.{NoCause, SavedFrame, frame_bytes}
+use Rattle.ak_ssa.specs.SavedRegisters.{AreRegs}
+use Rattle.ak_track.specs.Steps.{EntersBy, LeavesBy}
 use Rattle.ak_relation.specs.State.MachineState.{Processor, State}
 use Rattle.ak_relation.specs.Premises.EnterRows.{saved_in, enter_row}
 use Rattle.ak_relation.specs.Premises.Entering.{EntersAt}

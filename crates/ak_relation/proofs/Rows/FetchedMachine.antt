@@ -14,9 +14,9 @@ use Rattle.ak_model.specs.Paging.Pages.{flags_for}
 use Rattle.ak_model.specs.Flat.FlatRuns.{Flat}
 use Rattle.ak_model.specs.Control.ControlState.{Phase, Asked, Context, Enter, Probe, Finish, Control}
 use Rattle.ak_model.specs.Control.RuntimeTurn.{probed}
-use Rattle.ak_relation.specs.Bytes.SavedFrames.{NoCause, SavedFrame, frame_bytes}
 use Rattle.ak_relation.specs.Bytes.Contexts.{entry_regs}
 use Rattle.ak_relation.specs.Bytes.Pages.{IsState}
+use Rattle.ak_ssa.specs.SavedFrames.{NoCause, SavedFrame, frame_bytes}
 use Rattle.ak_relation.specs.State.MachineState.{State}
 use Rattle.ak_relation.specs.State.TableChanges.{with_mapping}
 use Rattle.ak_relation.specs.Premises.EnterRows.{enter_row}

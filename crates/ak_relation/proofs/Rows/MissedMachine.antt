@@ -14,8 +14,8 @@ use Rattle.ak_model.specs.Control.RuntimeTurn.{shown_fault}
 use Rattle.ak_model.specs.Flat.Instructions.{Plan, RaisesVector, Computes, Reads, Writes, CallsOut, plan}
 use Rattle.ak_model.specs.Flat.Encodings.{decode}
 use Rattle.ak_model.specs.Flat.FlatRuns.{Flat, Line, carry_out, is_program, rest_of_page, in_first_page, line}
-use Rattle.ak_relation.specs.Bytes.SavedFrames.{ByPage, SavedFrame, frame_bytes}
 use Rattle.ak_relation.specs.Program.Seeing.{Sees}
+use Rattle.ak_ssa.specs.SavedFrames.{ByPage, SavedFrame, frame_bytes}
 use Rattle.ak_relation.specs.State.MachineState.{State}
 use Rattle.ak_relation.specs.State.TableChanges.{with_mapping}
 use Rattle.ak_relation.specs.Premises.Faulting.{Faults}

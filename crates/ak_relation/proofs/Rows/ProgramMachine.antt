@@ -9,11 +9,11 @@ use Rattle.ak_core.specs.declared.moves.Move.TheVariants.{Eldu, SetPte, Eenter}
 use Rattle.ak_core.specs.declared.moves.Answer.TheVariants.{Ok}
 use Rattle.ak_model.specs.Paging.Pages.{flags_for}
 use Rattle.ak_epcm.specs.Entries.{entry_at}
-use Rattle.ak_relation.specs.Bytes.SavedFrames.{number_at}
 use Rattle.ak_relation.specs.State.MachineState.{State}
 use Rattle.ak_relation.specs.State.MachineView.{view_in}
 use Rattle.ak_relation.specs.State.TableChanges.{with_mapping}
-use Rattle.ak_relation.specs.State.TrackSteps.{EntersBy}
+use Rattle.ak_model.specs.Flat.Instructions.{number_at}
+use Rattle.ak_track.specs.Steps.{EntersBy}
 use Rattle.ak_model.specs.Control.LeafRows.{leaf_row}
 use Rattle.ak_relation.specs.Premises.EnterRows.{enter_row, saved_in}
 use Rattle.ak_relation.specs.Premises.Entering.{EntersAt}

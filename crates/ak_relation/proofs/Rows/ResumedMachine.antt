@@ -12,9 +12,7 @@ use Rattle.ak_epcm.specs.Entries.{entry_at}
 use Rattle.ak_relation.specs.State.MachineState.{Processor, State}
 use Rattle.ak_relation.specs.State.MachineView.{view_in}
 use Rattle.ak_relation.specs.State.TableChanges.{with_mapping}
-use Rattle.ak_relation.specs.State.TrackSteps.{EntersBy}
 use Rattle.ak_model.specs.Control.LeafRows.{leaf_row}
-use Rattle.ak_relation.specs.Bytes.SavedFrames.{frame_bytes}
 use Rattle.ak_relation.specs.Premises.EnterRows.{resume_row, saved_in}
 use Rattle.ak_relation.specs.Premises.Loading.{entry_of, LoadsFrom}
 use Rattle.ak_relation.specs.Premises.Resuming.{ResumesAt}
@@ -24,7 +22,9 @@ use Rattle.ak_relation.specs.Relation.Example.{one_page, input_program, loaded_p
 use Rattle.ak_relation.proofs.Leaves.LoadMoves.{eldu_moves}
 use Rattle.ak_relation.proofs.Leaves.DoneMoves.{set_pte_moves}
 use Rattle.ak_relation.proofs.Entering.EnterMoves.{resume_moves}
-use Rattle.ak_relation.proofs.Entering.LoadedRegisters.{area_back}
+use Rattle.ak_track.specs.Steps.{EntersBy}
+use Rattle.ak_ssa.specs.SavedFrames.{frame_bytes}
+use Rattle.ak_ssa.proofs.RegistersReturn.{area_back}
 use Rattle.ak_relation.proofs.Rows.BlankPages.{blank, blank_at, blank_whole, one_slot, two_slots, one_slot_whole, one_saved, one_saved_at, area_with, area_whole, area_has, other_slots, other_than_second}
 use Rattle.ak_relation.proofs.Rows.BuiltMachine.{page_valid, in_use, outside}
 use Rattle.ak_relation.proofs.Rows.EnteredMachine.{its_regs, its_frame, its_words, frame_size, saved_frames, saved_whole}

@@ -12,9 +12,9 @@ use Rattle.ak_core.specs.declared.registers.Regs.{Regs}
 use Rattle.ak_model.specs.Flat.Instructions.{with_reg, rax}
 use Rattle.ak_model.specs.Flat.FlatRuns.{Flat}
 use Rattle.ak_model.specs.Control.ControlState.{Calling, Context, Enter, Control}
-use Rattle.ak_relation.specs.Bytes.SavedFrames.{SavedFrame}
-use Rattle.ak_relation.specs.Bytes.SavedRegisters.{AreRegs}
 use Rattle.ak_relation.specs.Bytes.Contexts.{entry_regs}
+use Rattle.ak_ssa.specs.SavedFrames.{SavedFrame}
+use Rattle.ak_ssa.specs.SavedRegisters.{AreRegs}
 use Rattle.ak_relation.specs.State.MachineState.{State}
 use Rattle.ak_relation.specs.Premises.EnterRows.{enter_row}
 use Rattle.ak_relation.specs.Premises.Rows.{entry_row}

@@ -6,8 +6,8 @@ use Rattle.ak_core.specs.declared.page.Kind.TheVariants.{Write, Exec}
 use Rattle.ak_core.specs.declared.registers.Regs.{Regs}
 use Rattle.ak_model.specs.Flat.FlatRuns.{Flat, zeroed}
 use Rattle.ak_model.specs.Control.ControlState.{Phase, New, Running, Calling, Asked, Ended, Trapped, Dead, Context, Enter, Control}
-use Rattle.ak_relation.specs.Bytes.SavedFrames.{SavedFrame}
 use Rattle.ak_relation.specs.Bytes.Pages.{phase_number, IsState}
+use Rattle.ak_ssa.specs.SavedFrames.{SavedFrame}
 use Rattle.ak_relation.specs.State.MachineState.{Processor, State}
 use Rattle.ak_relation.specs.Premises.Rows.{kept_bytes, entry_row}
 use Rattle.ak_relation.specs.Premises.StepsTo.{Went, HasState, Performs, reads_of, StepsTo}

@@ -2,7 +2,7 @@
 use Rattle.std.proofs.Common.{◌≡◌, ℕ, zero, suc, ◌+◌, ◌*◌, List, [], ◌∷◌, ◌++◌, length, take, drop, refl, ap, ◌∙◌, arith}
 use Rattle.std.proofs.lemmas.List.{length-replicate, length-append, drop_at, take_at}
 use Rattle.std.specs.Prelude.{replicate, Some, slice_get}
-use Rattle.ak_relation.specs.Bytes.SavedFrames.{number_at}
+use Rattle.ak_model.specs.Flat.Instructions.{number_at}
 
 -- the phase's number, a status or a vector, and how many clusters are in the queue, before the frame
 abbrev before_frame : ℕ → ℕ → ℕ → List ℕ

@@ -3,17 +3,17 @@ use Rattle.std.proofs.Common.{◌≡◌, ℕ, List, [], ◌∷◌, length, refl,
 use Rattle.std.specs.Prelude.{Some, slice_get}
 use Rattle.ak_core.specs.declared.registers.Mode.{Mode}
 use Rattle.ak_core.specs.declared.registers.Regs.{Regs}
-use Rattle.ak_model.specs.Flat.Instructions.{reg_of, with_reg, rax, rcx, rsi, rdi}
+use Rattle.ak_model.specs.Flat.Instructions.{reg_of, with_reg, rax, rcx, rsi, rdi, number_at}
 use Rattle.ak_model.specs.Flat.FlatRuns.{Flat, zeroed}
 use Rattle.ak_model.specs.Control.ControlState.{Phase, New, Running, Calling, Asked, Ended, Trapped, Dead, Context, Program, Enter, Probe, Finish, Guard, Leave, Control}
 use Rattle.ak_model.specs.Control.RuntimeTurn.{asked_pages}
 use Rattle.ak_model.specs.Laws.StepRows.{HasRow}
-use Rattle.ak_relation.specs.Bytes.SavedFrames.{number_at, SavedFrame, state_place, HasFrame}
-use Rattle.ak_relation.specs.Bytes.SavedRegisters.{AreRegs, regs_in}
 use Rattle.ak_relation.specs.Bytes.Contexts.{step_address, entry_regs, Gives}
 use Rattle.ak_relation.specs.Bytes.Pages.{phase_number, SaysMore}
 use Rattle.ak_relation.specs.Relation.Example.{one_page}
-use Rattle.ak_relation.proofs.Entering.LoadedRegisters.{regs_back}
+use Rattle.ak_ssa.specs.SavedFrames.{SavedFrame, state_place, HasFrame}
+use Rattle.ak_ssa.specs.SavedRegisters.{AreRegs, regs_in}
+use Rattle.ak_ssa.proofs.RegistersReturn.{regs_back}
 
 -- ---- Phases
 

@@ -18,15 +18,15 @@ use Rattle.ak_model.specs.Control.ControlState.{Context, Control}
 use Rattle.ak_model.specs.Control.RuntimeTurn.{accesses, shown_fault}
 use Rattle.ak_model.specs.Laws.Orderly.{after_miss_if}
 use Rattle.ak_epcm.specs.Entries.{entry_at}
-use Rattle.ak_relation.specs.Bytes.SavedFrames.{SavedCause, ByPage, frame_bytes, area_place, HasFrame}
-use Rattle.ak_relation.specs.Bytes.FramesFit.{CauseFits}
-use Rattle.ak_relation.specs.Bytes.SavedRegisters.{AreRegs}
 use Rattle.ak_relation.specs.Bytes.Contexts.{entry_regs}
 use Rattle.ak_relation.specs.Bytes.Pages.{IsTcs}
 use Rattle.ak_relation.specs.State.MachineState.{Processor, State}
 use Rattle.ak_relation.specs.State.MachineView.{held_in}
 use Rattle.ak_relation.specs.State.Tables.{TablesStand}
-use Rattle.ak_relation.specs.State.TrackSteps.{EntersBy, LeavesBy}
+use Rattle.ak_ssa.specs.SavedFrames.{SavedCause, ByPage, frame_bytes, area_place, HasFrame}
+use Rattle.ak_ssa.specs.FramesFit.{CauseFits}
+use Rattle.ak_ssa.specs.SavedRegisters.{AreRegs}
+use Rattle.ak_track.specs.Steps.{EntersBy, LeavesBy}
 use Rattle.ak_relation.specs.Premises.EnterRows.{walk_in, saved_in, enter_row}
 use Rattle.ak_relation.specs.Premises.Entering.{EntersAt}
 use Rattle.ak_relation.specs.Premises.Saving.{missed_in, Saves}

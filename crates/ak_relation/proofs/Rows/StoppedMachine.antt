@@ -14,11 +14,8 @@ use Rattle.ak_core.specs.declared.registers.Mode.{Mode}
 use Rattle.ak_model.specs.Paging.Pages.{ssa_page}
 use Rattle.ak_model.specs.Flat.FlatRuns.{Flat, zeroed}
 use Rattle.ak_model.specs.Control.ControlState.{Running, Context, Enter, Control}
-use Rattle.ak_relation.specs.Bytes.SavedFrames.{SavedFrame, area_place, HasFrame}
 use Rattle.ak_relation.specs.Bytes.Contexts.{entry_regs, step_address}
-use Rattle.ak_relation.specs.Bytes.SavedRegisters.{AreRegs}
 use Rattle.ak_relation.specs.State.MachineState.{State, Processor}
-use Rattle.ak_relation.specs.State.TrackSteps.{EntersBy}
 use Rattle.ak_relation.specs.Premises.EnterRows.{enter_row, resume_row}
 use Rattle.ak_relation.specs.Premises.Rows.{guard_frame, entry_row}
 use Rattle.ak_relation.specs.Premises.StepsTo.{Died, Performs, ReadsSaved, reads_of, MayStep, StepsTo, memory_of}
@@ -26,7 +23,6 @@ use Rattle.ak_relation.specs.Premises.Resuming.{ResumesAt}
 use Rattle.ak_relation.specs.Relation.Does.{IsTurn, IsMove}
 use Rattle.ak_relation.specs.Relation.MoveByMove.{AreMoves}
 use Rattle.ak_relation.specs.Relation.Example.{one_page, input_program, stopping_past, stopped_past, IsReached, guarded_past}
-use Rattle.ak_relation.proofs.Bytes.FramesReturn.{same_frame}
 use Rattle.ak_relation.proofs.Runs.WholeRuns.{exit_moves}
 use Rattle.ak_relation.proofs.Rows.BlankPages.{one_saved, one_saved_whole, one_saved_at, none_refused, one_refused, refused_saved, area_with, area_whole, area_has, blank, blank_at, blank_whole}
 use Rattle.ak_relation.proofs.Rows.BuiltMachine.{page_valid}
@@ -38,7 +34,11 @@ use Rattle.ak_relation.proofs.Rows.StatePages.{state_with, state_whole, state_fr
 use Rattle.ak_relation.proofs.Rows.StepContexts.{phase_running, one_queue, entry_context}
 use Rattle.ak_relation.proofs.Rows.StepMemory.{later_areas, state_and_area, Written, at_place, over, over_whole, holds_of, bytes_of, in_frames, Changes, Steps, step_turn, left_with, entered_with, entered_move}
 use Rattle.ak_relation.proofs.Entering.EnterMoves.{resume_moves}
-use Rattle.ak_relation.proofs.Entering.LoadedRegisters.{area_back}
+use Rattle.ak_ssa.specs.SavedFrames.{SavedFrame, area_place, HasFrame}
+use Rattle.ak_ssa.specs.SavedRegisters.{AreRegs}
+use Rattle.ak_track.specs.Steps.{EntersBy}
+use Rattle.ak_ssa.proofs.FramesReturn.{same_frame}
+use Rattle.ak_ssa.proofs.RegistersReturn.{area_back}
 
 -- ---- The entering
 

@@ -16,8 +16,6 @@ use Rattle.ak_model.specs.Misses.Reached.{permitted_accesses}
 use Rattle.ak_model.specs.Misses.KeptTranslations.{is_among}
 use Rattle.ak_model.specs.Paging.Pages.{ssa_page}
 use Rattle.ak_model.specs.Control.ControlState.{Running, Context, Enter, Control}
-use Rattle.ak_relation.specs.Bytes.SavedFrames.{ByVector, frame_bytes, SavedFrame, area_place, HasFrame}
-use Rattle.ak_relation.specs.Bytes.FramesFit.{FrameFits}
 use Rattle.ak_relation.specs.Bytes.Contexts.{entry_regs}
 use Rattle.ak_relation.specs.Program.Seeing.{Sees}
 use Rattle.ak_relation.specs.State.MachineState.{State}
@@ -36,7 +34,9 @@ use Rattle.ak_relation.proofs.Rows.BuiltMachine.{page_valid}
 use Rattle.ak_relation.proofs.Rows.StartedMachine.{fetch, first_regs}
 use Rattle.ak_relation.proofs.Rows.ReturnedMachine.{returned_regs, returned, returned_whole, return_reached}
 use Rattle.ak_relation.proofs.Rows.StepMemory.{saved_bytes, saved_with, saved_whole, saves_with, later_areas, state_and_area, Written, at_place, over, over_whole, holds_of, bytes_of, in_frames, Changes, Steps, step_turn, left_with, entered_with, entered_move}
-use Rattle.ak_relation.proofs.Bytes.FramesReturn.{same_frame}
+use Rattle.ak_ssa.specs.SavedFrames.{ByVector, frame_bytes, SavedFrame, area_place, HasFrame}
+use Rattle.ak_ssa.specs.FramesFit.{FrameFits}
+use Rattle.ak_ssa.proofs.FramesReturn.{same_frame}
 use Rattle.ak_relation.proofs.Rows.AskedMachine.{guard_bytes, guard_size, room}
 use Rattle.ak_relation.proofs.Rows.CalledMachine.{kept_frame_bytes, kept_size}
 use Rattle.ak_relation.proofs.Rows.StatePages.{state_with, state_whole, state_frame, state_phase, state_status, state_size, no_clusters}

@@ -8,11 +8,12 @@ use Rattle.ak_core.specs.declared.page.PageType.TheVariants.{Secs, Tcs, Reg, Va}
 use Rattle.ak_core.specs.declared.moves.Move.TheVariants.{Eblock, Etrack, Ewb}
 use Rattle.ak_core.specs.declared.moves.Answer.TheVariants.{Ok, OkHandle}
 use Rattle.ak_epcm.specs.Entries.{entry_at}
-use Rattle.ak_relation.specs.State.MachineState.{SealedPage, State}
+use Rattle.ak_relation.specs.State.MachineState.{State}
 use Rattle.ak_relation.specs.State.MachineView.{view_in}
 use Rattle.ak_model.specs.Control.LeafRows.{leaf_row}
 use Rattle.ak_relation.specs.State.TableChanges.{BlocksEntry, with_block, with_cycle}
-use Rattle.ak_relation.specs.Premises.WriteOut.{sealed_page_of, WritesOutTo}
+use Rattle.ak_sealed.specs.SealedPages.{SealedPage, sealed_page_of}
+use Rattle.ak_relation.specs.Premises.WriteOut.{WritesOutTo}
 use Rattle.ak_relation.specs.Relation.Does.{IsMove}
 use Rattle.ak_relation.specs.Relation.MoveByMove.{AreMoves}
 use Rattle.ak_relation.specs.Relation.Example.{one_page, input_program, blocked_past, cycled_past, written_past, IsReached}
