@@ -1,6 +1,6 @@
 -- A saved frame that fits comes back from its bytes, what is noted of the exit and all. So of two such frames with one sequence of
 -- bytes, both are the same.
-use Rattle.std.proofs.Common.{◌≡◌, ℕ, ◌+◌, ◌-◌, ◌*◌, ◌<◌, List, [], ◌∷◌, ◌++◌, length, take, drop, refl, ap, sym, ◌∙◌, arith, length-append}
+use Rattle.std.proofs.Common.{◌≡◌, ℕ, ◌+◌, ◌-◌, ◌*◌, ◌<◌, List, [], ◌∷◌, ◌++◌, length, take, drop, refl, ap, sym, ◌∙◌, arith}
 use Rattle.std.proofs.lemmas.Bool.Decides.{nat_tests}
 use Rattle.std.proofs.lemmas.List.{drop-drop, drop_at}
 use Rattle.std.specs.Prelude.{false, ◌^◌, ◌/◌, ◌%◌, flat_map, ◌==◌, if◌then◌else◌}
@@ -13,7 +13,7 @@ use Rattle.ak_model.specs.Flat.Instructions.{le_bytes, le_value, number_at}
 use Rattle.ak_ssa.specs.declared.cause.Why.{Why}
 use Rattle.ak_ssa.specs.declared.cause.Why.TheVariants.{Interrupt, Vector, PageFault}
 use Rattle.ak_ssa.specs.SavedFrames.{SavedCause, NoCause, ByVector, ByPage, SavedFrame, exit_info, fault_address, code_of, fault_code, tail_bytes, saved_bytes, why_of, HasFrame}
-use Rattle.ak_ssa.specs.SavedRegisters.{AreRegs, regs_in}
+use Rattle.ak_ssa.specs.SavedRegisters.{AreRegs}
 use Rattle.ak_ssa.specs.ReadFrames.{kind_in, why_by, why_in, cause_of, frame_in}
 use Rattle.ak_ssa.specs.FramesFit.{WhyFits, CauseFits, FrameFits, HasRoom}
 use Rattle.ak_ssa.proofs.RegistersReturn.{value_back, parts, regs_back}

@@ -1,5 +1,5 @@
 -- Parts of a frame and of a page that are put into their places.
-use Rattle.std.proofs.Common.{◌≡◌, ℕ, zero, suc, ◌+◌, ◌-◌, ◌*◌, ◌≤◌, List, [], ◌∷◌, ◌++◌, length, take, drop, replicate, refl, ap, sym, ◌∙◌, arith, length-append, length-drop}
+use Rattle.std.proofs.Common.{◌≡◌, ℕ, zero, suc, ◌+◌, ◌-◌, List, [], ◌∷◌, ◌++◌, length, take, drop, replicate, ap, sym, ◌∙◌, arith, length-append, length-drop}
 use Rattle.std.proofs.lemmas.List.{drop_all, take_all, take_at, drop_at, drop-drop, append-nil, append_assoc, length-take-le}
 use Rattle.std.specs.Prelude.{flat_map, slice_set}
 use borrow.Rule.Slice.PartMut.{put_mid}

@@ -1,13 +1,13 @@
 -- The registers in a saved frame's bytes are those of the frame.
 use Rattle.std.proofs.Common.{◌≡◌, ℕ, zero, suc, ◌+◌, ◌*◌, ◌<◌, List, [], ◌∷◌, ◌++◌, length, drop, refl, ap, ◌∙◌, subst, arith}
 use Rattle.std.proofs.Math.Nat.{mod-add-div, div-lt_iff_lt-mul}
-use Rattle.std.specs.Prelude.{Bool, true, false, ◌^◌, ◌/◌, ◌%◌, take, flat_map, replicate}
+use Rattle.std.specs.Prelude.{Bool, true, false, ◌^◌, ◌/◌, ◌%◌, take, flat_map}
 use Rattle.ak_core.specs.Layout.{Layout}
 use Rattle.ak_core.specs.declared.registers.Mode.{Mode}
 use Rattle.ak_core.specs.declared.registers.Regs.{Regs}
 use Rattle.ak_model.specs.Flat.Instructions.{le_bytes, le_value}
 use Rattle.ak_ssa.specs.declared.cause.Why.{Why}
-use Rattle.ak_ssa.specs.SavedFrames.{SavedFrame, bit_if, flags_number, mode_number, tail_bytes, saved_bytes, why_of, area_place, HasFrame}
+use Rattle.ak_ssa.specs.SavedFrames.{SavedFrame, bit_if, mode_number, tail_bytes, saved_bytes, why_of, area_place, HasFrame}
 use Rattle.ak_ssa.specs.SavedRegisters.{AreWords, AreRegs, words_in, after_words, flag_in, mode_in, regs_by, regs_in, area_regs}
 
 -- a number that fits so many bytes comes back from them

@@ -1,6 +1,6 @@
 -- Frames whose numbers fit their bytes: of two such frames with one sequence of bytes, both are the same. So what a step reads is
 -- determined by the bytes.
-use Rattle.std.specs.Prelude.{ℕ, ◌+◌, ◌*◌, ◌^◌, ◌<◌}
+use Rattle.std.specs.Prelude.{◌+◌, ◌*◌, ◌^◌, ◌<◌}
 use Rattle.ak_core.specs.Layout.{Layout}
 use Rattle.ak_model.specs.Paging.Pages.{all_pages}
 use Rattle.ak_ssa.specs.declared.cause.Why.{Why}

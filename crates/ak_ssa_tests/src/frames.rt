@@ -26,6 +26,7 @@ pub const FULL: Regs = Regs {
 
 // A number whose bytes all differ, and the bytes.
 const MIXED: u64 = 0x8877_6655_4433_2211;
+
 const MIXED_BYTES: [u8; 8] = [0x11, 0x22, 0x33, 0x44, 0x55, 0x66, 0x77, 0x88];
 
 const ZEROS: [u8; 8] = [0; 8];
@@ -63,21 +64,71 @@ fn each_field_alone(rt: HostRuntime) {
     const PAGE_FAULT: [u8; 4] = [14, 3, 0, 0x80];
     let (cf, zf) = (Regs { cf: true, ..CLEAR }, Regs { zf: true, ..CLEAR });
     let (sf, of) = (Regs { sf: true, ..CLEAR }, Regs { of: true, ..CLEAR });
-    let rip = Regs { rip: MIXED, ..CLEAR };
-    let runtime = Regs { mode: Mode::Runtime, ..CLEAR };
+    let rip = Regs {
+        rip: MIXED,
+        ..CLEAR
+    };
+    let runtime = Regs {
+        mode: Mode::Runtime,
+        ..CLEAR
+    };
     let fault = |kind| Why::PageFault(MIXED, kind);
     let cases = [
-        (CLEAR, Why::Interrupt, laid_out(ZEROS, 0, [2, 0], ZEROS, NONE, 0)),
-        (cf, Why::Interrupt, laid_out(ZEROS, 0, [3, 0], ZEROS, NONE, 0)),
-        (zf, Why::Interrupt, laid_out(ZEROS, 0, [0x42, 0], ZEROS, NONE, 0)),
-        (sf, Why::Interrupt, laid_out(ZEROS, 0, [0x82, 0], ZEROS, NONE, 0)),
-        (of, Why::Interrupt, laid_out(ZEROS, 0, [2, 8], ZEROS, NONE, 0)),
-        (rip, Why::Interrupt, laid_out(ZEROS, 0, [2, 0], MIXED_BYTES, NONE, 0)),
-        (runtime, Why::Interrupt, laid_out(ZEROS, 0, [2, 0], ZEROS, NONE, 1)),
-        (CLEAR, Why::Vector(6), laid_out(ZEROS, 0, [2, 0], ZEROS, INVALID_OPCODE, 0)),
-        (CLEAR, fault(Kind::Read), laid_out(MIXED_BYTES, 4, [2, 0], ZEROS, PAGE_FAULT, 0)),
-        (CLEAR, fault(Kind::Write), laid_out(MIXED_BYTES, 6, [2, 0], ZEROS, PAGE_FAULT, 0)),
-        (CLEAR, fault(Kind::Exec), laid_out(MIXED_BYTES, 20, [2, 0], ZEROS, PAGE_FAULT, 0)),
+        (
+            CLEAR,
+            Why::Interrupt,
+            laid_out(ZEROS, 0, [2, 0], ZEROS, NONE, 0),
+        ),
+        (
+            cf,
+            Why::Interrupt,
+            laid_out(ZEROS, 0, [3, 0], ZEROS, NONE, 0),
+        ),
+        (
+            zf,
+            Why::Interrupt,
+            laid_out(ZEROS, 0, [0x42, 0], ZEROS, NONE, 0),
+        ),
+        (
+            sf,
+            Why::Interrupt,
+            laid_out(ZEROS, 0, [0x82, 0], ZEROS, NONE, 0),
+        ),
+        (
+            of,
+            Why::Interrupt,
+            laid_out(ZEROS, 0, [2, 8], ZEROS, NONE, 0),
+        ),
+        (
+            rip,
+            Why::Interrupt,
+            laid_out(ZEROS, 0, [2, 0], MIXED_BYTES, NONE, 0),
+        ),
+        (
+            runtime,
+            Why::Interrupt,
+            laid_out(ZEROS, 0, [2, 0], ZEROS, NONE, 1),
+        ),
+        (
+            CLEAR,
+            Why::Vector(6),
+            laid_out(ZEROS, 0, [2, 0], ZEROS, INVALID_OPCODE, 0),
+        ),
+        (
+            CLEAR,
+            fault(Kind::Read),
+            laid_out(MIXED_BYTES, 4, [2, 0], ZEROS, PAGE_FAULT, 0),
+        ),
+        (
+            CLEAR,
+            fault(Kind::Write),
+            laid_out(MIXED_BYTES, 6, [2, 0], ZEROS, PAGE_FAULT, 0),
+        ),
+        (
+            CLEAR,
+            fault(Kind::Exec),
+            laid_out(MIXED_BYTES, 20, [2, 0], ZEROS, PAGE_FAULT, 0),
+        ),
     ];
     for (regs, why, bytes) in cases {
         assert_eq!(rt; saved(&regs, why), bytes, "{regs:?} {why:?}");
@@ -116,8 +167,12 @@ fn the_greatest_numbers(rt: HostRuntime) {
 fn every_vector(rt: HostRuntime) {
     for vector in 0..=255 {
         let bytes = saved(&FULL, Why::Vector(vector));
-        assert_eq!(rt; bytes[176..180], [vector, 3, 0, 0x80], "vector {vector}");
-        assert_eq!(rt; bytes[..16], [0; 16], "vector {vector}");
+        assert_eq!(rt;
+            &bytes[176..180],
+            [vector, 3, 0, 0x80].as_slice(),
+            "vector {vector}"
+        );
+        assert_eq!(rt; &bytes[..16], [0; 16].as_slice(), "vector {vector}");
         assert_eq!(rt; frame::why(&bytes), Why::Vector(vector));
     }
 }

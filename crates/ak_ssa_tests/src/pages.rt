@@ -1,7 +1,9 @@
 // Saved frames in their pages.
 use crate::frames::{CLEAR, FULL};
 use ak_core::{Kind, Mode, PAGE_SIZE, Regs};
-use ak_ssa::{AREA_PLACE, FRAME_SIZE, STATE_PLACE, Why, clear_valid, frame, guard, load, save, why};
+use ak_ssa::{
+    AREA_PLACE, FRAME_SIZE, STATE_PLACE, Why, clear_valid, frame, guard, load, save, why,
+};
 
 #[test]
 fn saved_loaded_and_cleared(rt: HostRuntime) {
@@ -23,9 +25,9 @@ fn saved_loaded_and_cleared(rt: HostRuntime) {
             clear_valid(&mut page);
             assert_eq!(rt; load(&page), regs);
             assert_eq!(rt; why(&page), Why::Interrupt, "cleared: {reason:?}");
-            assert_eq!(rt; page[3896..3912], [0; 16]);
-            assert_eq!(rt; page[4072..4076], [0; 4]);
-            assert_eq!(rt; page[..3896], [0xaa; 3896]);
+            assert_eq!(rt; &page[3896..3912], [0; 16].as_slice());
+            assert_eq!(rt; &page[4072..4076], [0; 4].as_slice());
+            assert_eq!(rt; &page[..3896], [0xaa; 3896].as_slice());
         }
     }
 }
@@ -46,23 +48,30 @@ fn the_guard(rt: HostRuntime) {
         want[4076] = 1;
         assert_eq!(rt; page, want, "CODE at {code:x}");
         assert_eq!(rt; why(&page), Why::Interrupt);
-        assert_eq!(rt; load(&page), Regs { rip: code + 16, mode: Mode::Runtime, ..CLEAR });
+        assert_eq!(rt;
+            load(&page),
+            Regs {
+                rip: code + 16,
+                mode: Mode::Runtime,
+                ..CLEAR
+            }
+        );
     }
 }
 
 #[test]
 fn the_frame_in_state(rt: HostRuntime) {
     let mut state = [0xaa; PAGE_SIZE];
-    let kept = STATE_PLACE..STATE_PLACE + FRAME_SIZE;
-    frame::save(&mut state[kept.clone()], &FULL, Why::Vector(3));
-    assert_eq!(rt; state[..2048], [0xaa; 2048]);
-    assert_eq!(rt; state[2248..], [0xaa; 1848]);
+    const END: usize = STATE_PLACE + FRAME_SIZE;
+    frame::save(&mut state[STATE_PLACE..END], &FULL, Why::Vector(3));
+    assert_eq!(rt; &state[..2048], [0xaa; 2048].as_slice());
+    assert_eq!(rt; &state[2248..], [0xaa; 1848].as_slice());
     // The same bytes in an area are the same frame.
     let mut page = [0; PAGE_SIZE];
-    page[AREA_PLACE..].copy_from_slice(&state[kept.clone()]);
+    page[AREA_PLACE..].copy_from_slice(&state[STATE_PLACE..END]);
     assert_eq!(rt; load(&page), FULL);
     assert_eq!(rt; why(&page), Why::Vector(3));
-    frame::clear_valid(&mut state[kept.clone()]);
-    assert_eq!(rt; frame::load(&state[kept.clone()]), FULL);
-    assert_eq!(rt; frame::why(&state[kept]), Why::Interrupt);
+    frame::clear_valid(&mut state[STATE_PLACE..END]);
+    assert_eq!(rt; frame::load(&state[STATE_PLACE..END]), FULL);
+    assert_eq!(rt; frame::why(&state[STATE_PLACE..END]), Why::Interrupt);
 }

@@ -1,4 +1,4 @@
-use Rattle.std.proofs.Common.{◌≡◌, ap, ◌∙◌}
+use Rattle.std.proofs.Common.{ap, ◌∙◌}
 use Rattle.ak_ssa.specs.SavedRegisters.{regs_in}
 use Rattle.ak_ssa.proofs.RegistersReturn.{regs_back}
 use Rattle.ak_ssa.proofs.Words.{number_from}

@@ -1,4 +1,3 @@
-use Rattle.std.proofs.Common.{◌≡◌, ap, ◌∙◌}
 use Rattle.ak_ssa.proofs.Words.{words_read}
 use Rattle.ak_ssa.proofs.frame.registers.Goals as goal
 

@@ -1,4 +1,4 @@
-use Rattle.std.proofs.Common.{◌≡◌, ◌∷◌, ◌++◌, replicate, ap, ◌∙◌}
+use Rattle.std.proofs.Common.{◌∷◌, ◌++◌, replicate, ap, ◌∙◌}
 use Rattle.ak_model.specs.Flat.Instructions.{le_bytes}
 use Rattle.ak_ssa.specs.SavedFrames.{flags_number, exit_info}
 use Rattle.ak_ssa.proofs.Parts.{tail_is}

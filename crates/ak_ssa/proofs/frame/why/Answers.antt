@@ -1,4 +1,4 @@
-use Rattle.std.proofs.Common.{◌≡◌, ap, ◌∙◌}
+use Rattle.std.proofs.Common.{ap, ◌∙◌}
 use Rattle.ak_ssa.specs.declared.cause.Why.TheVariants.{PageFault}
 use Rattle.ak_ssa.specs.ReadFrames.{why_in}
 use Rattle.ak_ssa.proofs.FramesReturn.{why_back}

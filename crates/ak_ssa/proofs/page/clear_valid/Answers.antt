@@ -1,4 +1,4 @@
-use Rattle.std.proofs.Common.{◌≡◌, ap, sym, refl, ◌∙◌, length, drop, arith}
+use Rattle.std.proofs.Common.{ap, refl, ◌∙◌}
 use Rattle.ak_ssa.specs.ReadFrames.{cleared}
 use Rattle.ak_ssa.proofs.Parts.{at_end, end_size, below_put, ends}
 use Rattle.ak_ssa.proofs.page.clear_valid.Goals as goal

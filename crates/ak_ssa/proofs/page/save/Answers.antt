@@ -1,4 +1,4 @@
-use Rattle.std.proofs.Common.{◌≡◌, ap, sym, refl, ◌∙◌, length, drop, arith}
+use Rattle.std.proofs.Common.{◌∙◌}
 use Rattle.ak_ssa.proofs.Parts.{at_end, end_size, below_put}
 use Rattle.ak_ssa.proofs.page.save.Goals as goal
 
