@@ -11,7 +11,7 @@ use Rattle.ak_epcm.specs.Entries.{entry_at}
 use Rattle.ak_model.specs.Paging.Views.{View}
 use Rattle.ak_model.specs.Flat.Instructions.{number_at}
 use Rattle.ak_track.specs.Steps.{tracked_by, incomplete_by}
-use Rattle.ak_sealed.specs.SealedPages.{SealedPage}
+use Rattle.ak_sealed.specs.SealedPages.{SealedPage, handle_in}
 use Rattle.ak_relation.specs.State.MachineState.{State}
 
 -- what a frame of this type holds

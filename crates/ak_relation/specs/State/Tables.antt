@@ -18,7 +18,7 @@ use Rattle.ak_walk.specs.Agrees.{EntryAgrees, type_of_page}
 use Rattle.ak_relation.specs.State.TrackSteps.{steps_of, stamp_of}
 use Rattle.ak_model.specs.Flat.Instructions.{number_at}
 use Rattle.ak_track.specs.Steps.{TrackStep, Cycled}
-use Rattle.ak_sealed.specs.SealedPages.{SealedPage}
+use Rattle.ak_sealed.specs.SealedPages.{SealedPage, version}
 use Rattle.ak_relation.specs.State.MachineState.{Processor, State}
 
 -- each entry of the EPCM says what its frame holds, and whether that is blocked
