@@ -1,8 +1,8 @@
 -- What marks stand for, step by step.
-use Rattle.std.proofs.Common.{◌≡◌, ℕ, ◌+◌, ◌-◌, ◌<◌, ◌≤◌, Bool, true, false, ◌==◌, if◌then◌else◌, List, [], ◌∷◌, length, map, refl, ap, sym, subst, ◌∙◌, arith, inl, inr}
-use Rattle.std.specs.Prelude.{not, ◌&&◌, cond, filter, nat_lt, Some}
+use Rattle.std.proofs.Common.{◌≡◌, ℕ, ◌+◌, ◌-◌, ◌≤◌, Bool, true, false, ◌==◌, if◌then◌else◌, List, [], ◌∷◌, length, map, refl, ap, sym, ◌∙◌, arith}
+use Rattle.std.specs.Prelude.{not, ◌&&◌, filter, nat_lt, Some}
 use Rattle.std.specs.List.{range_with_len, list_any, list_all}
-use Rattle.std.proofs.lemmas.Bool.{cases_Bool, both_ways, and_from, and_parts, not-false, lt-ltb, le-ltb, ltb-false}
+use Rattle.std.proofs.lemmas.Bool.{both_ways, and_from, and_parts, not-false, lt-ltb, le-ltb}
 use Rattle.std.proofs.lemmas.List.{length-map}
 use Rattle.std.proofs.Math.Bool.{not-not}
 use Rattle.std.proofs.Math.Dec.{eqb-suc-zero}
@@ -51,7 +51,7 @@ begun track lps steps count h none grown = record {
   inside = h.inside;
   waiting = (
     filter_same (inside_by steps) (is_marked track.inside) 0 lps
-      (λ x low high. sym (h.inside x ∙ ap (λ b. b && inside_by steps x) (lt-ltb x lps (omega arith)))),
+        (λ x low high. sym (h.inside x ∙ ap (λ b. b && inside_by steps x) (lt-ltb x lps (omega arith)))),
     all_over lps track.waiting (cycles_by lps steps) h.waiting (last_over lps track.waiting (cycles_by lps steps) h.waiting h.none_beyond none),
   );
   none_beyond = λ lp beyond. h.inside lp ∙ ap (λ b. b && inside_by steps lp) (le-ltb lp lps beyond);
@@ -79,7 +79,7 @@ waiting_without : (lps q : ℕ) (marks others : List Bool) (all : List Cycle) �
 waiting_without lps q marks others [] left h = λ lp. left lp ∙ ap (λ b. b && not (lp == q)) (h lp)
 waiting_without lps q marks others (cycle ∷ older) left h = (
   ap (filter (λ r. not (r == q))) h.0 ∙ filter_both (λ r. not (r == q)) (is_marked marks) (range_with_len 0 lps)
-  ∙ filter_same (λ r. is_marked marks r && not (r == q)) (is_marked others) 0 lps (λ r low high. sym (left r)),
+      ∙ filter_same (λ r. is_marked marks r && not (r == q)) (is_marked others) 0 lps (λ r low high. sym (left r)),
   over_without q older h.1,
 )
 

@@ -2,7 +2,7 @@
 use Rattle.std.proofs.Common.{◌≡◌, ℕ, suc, ◌+◌, ◌<◌, ◌≤◌, Bool, true, false, if◌then◌else◌, List, [], ◌∷◌, length, map, refl, ap, sym, subst, ◌∙◌, arith, inl, inr}
 use Rattle.std.specs.Prelude.{◌&&◌, ◌||◌, cond, filter, nat_lt, nat_le}
 use Rattle.std.specs.List.{list_any, list_all}
-use Rattle.std.proofs.lemmas.Bool.{cases_lt, and_parts, or_from, or_left, and_from, lt-ltb, le-ltb, le-leb, lt-leb}
+use Rattle.std.proofs.lemmas.Bool.{cases_lt, and_parts, or_left, and_from, lt-ltb, le-ltb, le-leb, lt-leb}
 use Rattle.ak_model.specs.Paging.Tracking.{Cycle, without, is_over}
 use Rattle.ak_track.specs.Steps.{TrackStep, EntersBy, LeavesBy, Cycled, cycles_by}
 
@@ -109,14 +109,14 @@ later_over place n (cycle ∷ older) h over =
       | inl later ↦
           let few = count_few place older in
           or_left (is_later place cycle) (list_any (is_later place) older)
-            (and_from (nat_lt place cycle.at) (is_over cycle) (lt-ltb place cycle.at later) (and_parts (is_over cycle) (list_all is_over older) over).0)
+          (and_from (nat_lt place cycle.at) (is_over cycle) (lt-ltb place cycle.at later) (and_parts (is_over cycle) (list_all is_over older) over).0)
           ∙ sym (ap (λ m. nat_lt m (suc (length older))) (count_older place cycle older later)
-            ∙ lt-ltb (count_up_to place older) (suc (length older)) (omega arith))
+          ∙ lt-ltb (count_up_to place older) (suc (length older)) (omega arith))
       | inr earlier ↦
           let all : Below (place + 1) (cycle ∷ older) = (omega arith, h.1) in
           none_later place (place + 1) (cycle ∷ older) all (omega arith)
           ∙ sym (ap (λ m. nat_lt m (suc (length older))) (counted_all place (place + 1) (cycle ∷ older) all (omega arith))
-            ∙ le-ltb (suc (length older)) (suc (length older)) (omega arith))
+          ∙ le-ltb (suc (length older)) (suc (length older)) (omega arith))
     ]
 
 -- where the newest waits and the others are over, one is later just where not all but one lie up to the place
@@ -133,5 +133,5 @@ later_waiting place n cycle older h waits over =
           let all : Below (place + 1) (cycle ∷ older) = (omega arith, h.1) in
           none_later place (place + 1) (cycle ∷ older) all (omega arith)
           ∙ sym (ap (λ m. nat_lt m (length older)) (counted_all place (place + 1) (cycle ∷ older) all (omega arith))
-            ∙ le-ltb (suc (length older)) (length older) (omega arith))
+          ∙ le-ltb (suc (length older)) (length older) (omega arith))
     ]

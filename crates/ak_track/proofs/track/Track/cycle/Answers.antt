@@ -17,7 +17,7 @@ returns-clause-ok c = λ lps steps h few.
     let track : Marks = record { lps = c.self.inside.lps; inside = c.self.inside.inside; waiting = c.self.inside.waiting; cycles = c.self.inside.cycles } in
     let was : HoldsSteps track lps steps = subst (λ m. HoldsSteps m lps steps) (sym c.self.view_is) h in
     let none : any_mark track.waiting ≡ false =
-      ap (λ (m : Marks). any_mark m.waiting) c.self.view_is ∙ sym c.waits.ensures ∙ c.if-waits.false in
+    ap (λ (m : Marks). any_mark m.waiting) c.self.view_is ∙ sym c.waits.ensures ∙ c.if-waits.false in
     let grown : c.saturating_add-self-inside.result ≡ length (cycles_by lps steps) + 1 =
-      omega (arith, c.saturating_add-self-inside.ensures, was.count, few) in
+    omega (arith, c.saturating_add-self-inside.ensures, was.count, few) in
     begun track lps steps c.saturating_add-self-inside.result was none grown

@@ -1,5 +1,5 @@
 use Rattle.std.proofs.Common.{◌≡◌, ◌≤◌, ap, sym, ◌∙◌, subst, refl, arith}
-use Rattle.std.specs.Prelude.{◌&&◌, nat_lt, false, slice_set}
+use Rattle.std.specs.Prelude.{◌&&◌, false, slice_set}
 use Rattle.std.proofs.lemmas.Bool.{le-ltb}
 use Rattle.ak_track.specs.Steps.{inside_by}
 use Rattle.ak_track.specs.Tracking.{Marks, is_marked, HoldsSteps}
@@ -13,9 +13,9 @@ returns-then-lp-self c = λ lps steps h.
     let was : HoldsSteps track lps steps = subst (λ m. HoldsSteps m lps steps) (sym c.self.view_is) h in
     let q = c.args.lp.0 in
     let inside : IsWithout q track.inside (slice_set track.inside c.from.result false) =
-      λ r. ap (λ i. is_marked (slice_set track.inside i false) r) c.from.ensures ∙ marked_set track.inside q r in
+    λ r. ap (λ i. is_marked (slice_set track.inside i false) r) c.from.ensures ∙ marked_set track.inside q r in
     let waiting : IsWithout q track.waiting (slice_set track.waiting c.from-then-lp-self.result false) =
-      λ r. ap (λ i. is_marked (slice_set track.waiting i false) r) c.from-then-lp-self.ensures ∙ marked_set track.waiting q r in
+    λ r. ap (λ i. is_marked (slice_set track.waiting i false) r) c.from-then-lp-self.ensures ∙ marked_set track.waiting q r in
     left track _ lps q steps was refl refl inside waiting
 
 pub returns-else-lp-self : goal.returns-else-lp-self

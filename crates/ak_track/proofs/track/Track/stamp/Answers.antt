@@ -1,4 +1,4 @@
-use Rattle.std.proofs.Common.{ap, sym}
+use Rattle.std.proofs.Common.{ap}
 use Rattle.ak_track.specs.Tracking.{Marks}
 use Rattle.ak_track.proofs.MarkedSteps.{stamped}
 use Rattle.ak_track.proofs.track.Track.stamp.Goals as goal
