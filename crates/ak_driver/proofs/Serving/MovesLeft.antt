@@ -1,17 +1,15 @@
 -- How the number of moves that are left falls, and how many there are at most.
-use Rattle.std.proofs.Common.{◌≡◌, ℕ, zero, suc, ◌+◌, ◌*◌, ◌<◌, ◌≤◌, List, [], ◌∷◌, ◌++◌, length, arith, refl, sym, ◌∙◌, subst, ap}
-use Rattle.std.specs.Prelude.{Bool, true, false, not, ◌||◌, Option, Some, None, is_some, is_none, filter, nat_lt, flat_map, ◌==◌, if◌then◌else◌}
+use Rattle.std.proofs.Common.{◌≡◌, ℕ, ◌+◌, ◌*◌, ◌<◌, ◌≤◌, List, [], ◌∷◌, ◌++◌, length, arith, refl, sym, ◌∙◌, subst}
+use Rattle.std.specs.Prelude.{Bool, true, false, ◌||◌, ◌==◌, if◌then◌else◌}
 use Rattle.std.specs.List.{list_any, sum_by}
-use Rattle.std.proofs.lemmas.Bool.{eqb-true, eqb-false, lt-ltb}
+use Rattle.std.proofs.lemmas.Bool.{eqb-true, eqb-false}
 use Rattle.std.proofs.lemmas.Bool.Decides.{nat_tests}
 use Rattle.std.proofs.lemmas.List.Folds.{list_any_none}
 use Rattle.std.proofs.lemmas.List.Sums.{sum_by-cons, sum_by-append, sum_by-le, sum_by-le-sum_by}
 use Rattle.ak_core.specs.Layout.{Layout}
 use Rattle.ak_model.specs.Paging.Pages.{pages, pages_of, cluster_at}
 use Rattle.ak_model.specs.Paging.Histories.{History}
-use Rattle.ak_model.specs.Paging.Tracking.{Cycle, over_after}
 use Rattle.ak_model.specs.Clusters.Queue.{is_in}
-use Rattle.ak_model.proofs.Paging.BlockPlaces.{Bounded}
 use Rattle.ak_driver.proofs.Invariant.PageStates.{PageState, Out, Unmapped, Blocked, In}
 use Rattle.ak_driver.proofs.Invariant.PagesStand.{with_state}
 use Rattle.ak_driver.proofs.Invariant.ServingMoves.{page_left, leaving_pages, is_untracked, cycle_left, moves_left}

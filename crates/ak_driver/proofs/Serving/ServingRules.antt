@@ -10,7 +10,6 @@ use Rattle.ak_model.specs.Paging.Pages.{pages, pages_of, cluster_at, perm_of, st
 use Rattle.ak_model.specs.Paging.Histories.{History}
 use Rattle.ak_model.specs.Paging.Frames.{blocked_at}
 use Rattle.ak_model.specs.Paging.PageTable.{pte}
-use Rattle.ak_model.specs.Paging.Tracking.{tracked}
 use Rattle.ak_model.specs.Control.ControlState.{Control}
 use Rattle.ak_model.specs.Kernels.Counted.{service}
 use Rattle.ak_model.specs.Kernels.KernelRules.{is_mapped}
