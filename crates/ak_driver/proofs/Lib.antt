@@ -4,3 +4,4 @@ pub mod Turns
 pub mod Serving
 pub mod Driving
 pub mod Keeping
+pub mod Rows

@@ -10,7 +10,6 @@ use Rattle.ak_core.specs.declared.moves.Move.{Move}
 use Rattle.ak_model.specs.Paging.Build.{queue_at_build}
 use Rattle.ak_model.specs.Kernels.Counted.{CountsRight}
 use Rattle.ak_model.specs.Paging.Inside.{someone_inside}
-use Rattle.ak_model.specs.Control.Answers.{answer}
 use Rattle.ak_model.specs.Kernels.Repeats.{is_done}
 use Rattle.ak_model.specs.Kernels.HonestKernel.{is_ended, drive, IsDriven}
 use Rattle.ak_model.specs.Laws.Orderly.{IsOrderly}

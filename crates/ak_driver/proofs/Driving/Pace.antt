@@ -1,6 +1,6 @@
 -- How many moves stand between a request and the run that follows, and what that run is answered.
 use Rattle.std.proofs.Common.{◌≡◌, ◌⊎◌, inl, inr, ℕ, suc, ◌+◌, ◌*◌, ◌<◌, ◌≤◌, List, [], ◌∷◌, ◌++◌, length, arith, refl, sym, ◌∙◌, subst, ap}
-use Rattle.std.specs.Prelude.{Bool, true, false, not, ◌&&◌, take, Option, Some, None}
+use Rattle.std.specs.Prelude.{true, false, not, take, Option, Some, None}
 use Rattle.std.specs.List.{list_all}
 use Rattle.std.proofs.lemmas.Bool.{and_parts}
 use Rattle.ak_core.specs.Layout.{Layout, IsValid}
@@ -11,7 +11,7 @@ use Rattle.ak_core.specs.declared.moves.Exit.TheVariants.{Ask}
 use Rattle.ak_core.specs.declared.moves.Move.{Move}
 use Rattle.ak_core.specs.declared.moves.Move.TheVariants.{Run}
 use Rattle.ak_model.specs.Paging.Build.{queue_at_build}
-use Rattle.ak_model.specs.Paging.Histories.{History, Exits}
+use Rattle.ak_model.specs.Paging.Histories.{History}
 use Rattle.ak_model.specs.Paging.Pages.{pages_of}
 use Rattle.ak_model.specs.Clusters.Queue.{is_in}
 use Rattle.ak_model.specs.Control.ControlState.{Control}

@@ -1,4 +1,4 @@
--- How the tables stand while the honest kernel is at work: the ground, and a state for each program page.
+-- How the tables stand while the honest kernel is at work: what it does not touch, and a state for each program page.
 use Rattle.std.specs.Prelude.{ℕ, ◌<◌, ◌==◌, if◌then◌else◌}
 use Rattle.ak_core.specs.Layout.{Layout}
 use Rattle.ak_model.specs.Paging.Pages.{pages}

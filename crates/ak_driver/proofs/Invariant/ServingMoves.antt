@@ -1,6 +1,6 @@
 -- What a move that serves a request comes to, and how many are left.
-use Rattle.std.specs.Prelude.{◌≡◌, ℕ, ◌+◌, ◌<◌, Bool, true, false, not, List, [], ◌∷◌, ◌++◌, Some, flat_map}
-use Rattle.std.specs.List.{list_any}
+use Rattle.std.specs.Prelude.{◌≡◌, ℕ, ◌+◌, ◌<◌, Bool, true, false, not, List, ◌∷◌, ◌++◌, Some, flat_map}
+use Rattle.std.specs.List.{list_any, sum_by}
 use Rattle.ak_core.specs.Layout.{Layout}
 use Rattle.ak_core.specs.declared.moves.Move.{Move}
 use Rattle.ak_core.specs.declared.moves.Exit.{Exit}
@@ -44,11 +44,6 @@ abbrev pub page_left : Bool → PageState → ℕ
 page_left true state = leaving_left state
 page_left false state = fetching_left state
 
--- the sum over a list
-abbrev pub total : (ℕ → ℕ) → List ℕ → ℕ
-total weight [] = 0
-total weight (p ∷ all) = weight p + total weight all
-
 -- the pages that leave
 abbrev pub leaving_pages : Layout → List ℕ → List ℕ
 leaving_pages layout leaving = flat_map (pages_of layout) leaving
@@ -65,7 +60,7 @@ cycle_left false = 0
 -- at most so many moves are left before the request is answered, with the entering
 abbrev pub moves_left : Layout → List ℕ → ℕ → History → (ℕ → PageState) → ℕ
 moves_left layout leaving c past states =
-    total (λ p. page_left (is_in leaving (cluster_at layout p)) (states p)) (leaving_pages layout leaving ++ pages_of layout c)
+    sum_by (λ p. page_left (is_in leaving (cluster_at layout p)) (states p)) (leaving_pages layout leaving ++ pages_of layout c)
     + cycle_left (list_any (is_untracked layout past) (leaving_pages layout leaving))
     + 1
 

@@ -30,7 +30,7 @@ pub record UntouchedBy (layout : Layout) (held : ℕ → Held) (blocked : ℕ �
   pub entries : (p : ℕ) → pages layout ≤ p → p < all_pages layout → pte p ≡ entry_at_build layout p
   pub kept : (k : ℕ) → discarded k ≡ false
 
--- the history leaves the ground as it is, and each tracking cycle is over
+-- so the history leaves them, and each tracking cycle is over
 pub record Untouched (layout : Layout) (past : History) : Type 0 where
   pub same : UntouchedBy layout (held layout past) (blocked_at past) (pte layout past) (discarded past)
   pub over : list_all is_over (cycles layout past) ≡ true

@@ -1,6 +1,6 @@
 -- An honest run keeps all rules of a well-behaved kernel, and evicts.
 use Rattle.std.proofs.Common.{◌≡◌, List, [], ◌∷◌, refl}
-use Rattle.std.specs.Prelude.{Bool, true, ◌&&◌, All}
+use Rattle.std.specs.Prelude.{Bool, true, All}
 use Rattle.std.specs.List.{list_all}
 use Rattle.std.proofs.lemmas.Bool.{and_from}
 use Rattle.std.proofs.lemmas.List.Elements.{All-head, All-tail}

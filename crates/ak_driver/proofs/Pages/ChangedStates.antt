@@ -1,4 +1,4 @@
--- What a change of one frame or one entry does to the ground and to a page's state.
+-- What a change of one frame or one entry does to what is untouched and to a page's state.
 use Rattle.std.proofs.Common.{◌≡◌, ℕ, ◌<◌, ◌≤◌, arith, ◌∙◌, ap}
 use Rattle.std.specs.Prelude.{Bool, true, false, if◌then◌else◌, Option, ◌==◌}
 use Rattle.std.proofs.lemmas.Bool.{ne_eqb}

@@ -49,8 +49,8 @@ module _ (layout : Layout) (past : History) (states : ℕ → PageState) (old : 
     abbrev set_entry : History
     set_entry = (SetPte (record { 0 = p }) (record { 0 = f }) flags, Ok) ∷ past
 
-    set_ground : Untouched layout set_entry
-    set_ground = record {
+    set_untouched : Untouched layout set_entry
+    set_untouched = record {
       same = entry_changes layout _ _ _ _ old.untouched.same p (record { frame = f; flags = flags }) low;
       over = old.untouched.over;
     }
@@ -63,22 +63,22 @@ module _ (layout : Layout) (past : History) (states : ℕ → PageState) (old : 
     set_entry_is : pte layout set_entry p ≡ record { frame = f; flags = flags }
     set_entry_is = rw (self p) refl
 
-  -- unmapped, a page that was mapped is loose
+  -- unmapped, a page that was in is in its frame still
   pub unmaps : (p f : ℕ) (low : p < pages layout) → states p ≡ In → PagesStand layout (set_entry p f no_flags low) (with_state states p Unmapped)
   unmaps p f low e =
       let was : IsInState layout past p In = subst (λ s. IsInState layout past p s) e (old.each p low) in
       record {
-        untouched = set_ground p f no_flags low;
+        untouched = set_untouched p f no_flags low;
         each = each_by (set_entry p f no_flags low) p Unmapped (was.0, was.1, ap (λ e. e.flags) (set_entry_is p f no_flags low)) (set_others p f no_flags low);
       }
 
-  -- mapped to its frame, a loose page is in
+  -- mapped to its frame, an unmapped page is in
   pub maps : (p : ℕ) (low : p < pages layout) (e : states p ≡ Unmapped) → (f : ℕ) → place layout past p ≡ InFrame f → PagesStand layout (set_entry p f (full p) low) (with_state states p In)
   maps p low e f at =
       let was : IsInState layout past p Unmapped = subst (λ s. IsInState layout past p s) e (old.each p low) in
       let frame : f ≡ was.0.frame = let a = was.0.placed in let b : InFrame f ≡ InFrame was.0.frame = sym at ∙ a in cc in
       record {
-        untouched = set_ground p f (full p) low;
+        untouched = set_untouched p f (full p) low;
         each = each_by (set_entry p f (full p) low) p In (was.0, was.1, set_entry_is p f (full p) low ∙ ap (λ g. record { frame = g; flags = full p }) frame) (set_others p f (full p) low);
       }
 
@@ -88,19 +88,19 @@ module _ (layout : Layout) (past : History) (states : ℕ → PageState) (old : 
     abbrev block_frame : History
     block_frame = (Eblock (record { 0 = f }), Ok) ∷ past
 
-    was_loose : IsInState layout past p Unmapped
-    was_loose = subst (λ s. IsInState layout past p s) e (old.each p low)
+    was_unmapped : IsInState layout past p Unmapped
+    was_unmapped = subst (λ s. IsInState layout past p s) e (old.each p low)
 
-    loose_frame : f ≡ was_loose.0.frame
-    loose_frame = let a = was_loose.0.placed in let b : InFrame f ≡ InFrame was_loose.0.frame = sym at ∙ a in cc
+    unmapped_frame : f ≡ was_unmapped.0.frame
+    unmapped_frame = let a = was_unmapped.0.placed in let b : InFrame f ≡ InFrame was_unmapped.0.frame = sym at ∙ a in cc
 
-    loose_low : 8 ≤ f
-    loose_low = let e = loose_frame in let l = was_loose.0.low in omega arith
+    unmapped_low : 8 ≤ f
+    unmapped_low = let e = unmapped_frame in let l = was_unmapped.0.low in omega arith
 
-    blocked_now : blocked_at block_frame was_loose.0.frame ≡ Some (length past + 1)
+    blocked_now : blocked_at block_frame was_unmapped.0.frame ≡ Some (length past + 1)
     blocked_now =
-        let a = was_loose.1 in let b = self was_loose.0.frame in
-        let c : (was_loose.0.frame == f) ≡ true = subst (λ x. (was_loose.0.frame == x) ≡ true) (sym loose_frame) b in
+        let a = was_unmapped.1 in let b = self was_unmapped.0.frame in
+        let c : (was_unmapped.0.frame == f) ≡ true = subst (λ x. (was_unmapped.0.frame == x) ≡ true) (sym unmapped_frame) b in
         rw (c, a) refl
 
     block_others : (q : ℕ) → (q ≡ p → ⊥) → q < pages layout → IsInState layout block_frame q (states q)
@@ -111,8 +111,8 @@ module _ (layout : Layout) (past : History) (states : ℕ → PageState) (old : 
     pub blocks : PagesStand layout block_frame (with_state states p Blocked)
     blocks = record {
       untouched = record {
-        same = block_changes layout _ _ _ _ old.untouched.same f (λ g. blocks_first (blocked_at past g) (length past + 1)) loose_low;
+        same = block_changes layout _ _ _ _ old.untouched.same f (λ g. blocks_first (blocked_at past g) (length past + 1)) unmapped_low;
         over = old.untouched.over;
       };
-      each = each_by block_frame p Blocked (was_loose.0, (length past + 1, blocked_now), was_loose.2) block_others;
+      each = each_by block_frame p Blocked (was_unmapped.0, (length past + 1, blocked_now), was_unmapped.2) block_others;
     }

@@ -2,9 +2,9 @@
 use Rattle.std.proofs.Common.{◌≡◌, ℕ, ◌+◌, ◌<◌, ◌≤◌, List, ◌∷◌, length, arith, refl, sym, ◌∙◌, subst, ap}
 use Rattle.std.specs.Prelude.{Bool, true, false, not, Option, Some, None, is_some, is_none, filter, ◌==◌, if◌then◌else◌}
 use Rattle.std.specs.List.{list_any}
-use Rattle.std.proofs.lemmas.Bool.{eqb-true, eqb-false, ne_eqb, lt-ltb}
+use Rattle.std.proofs.lemmas.Bool.{eqb-false, ne_eqb, lt-ltb}
 use Rattle.ak_core.specs.Layout.{Layout}
-use Rattle.ak_core.specs.declared.moves.Move.TheVariants.{Eblock, Etrack, Ewb, Eldu}
+use Rattle.ak_core.specs.declared.moves.Move.TheVariants.{Etrack, Ewb, Eldu}
 use Rattle.ak_core.specs.declared.moves.Answer.TheVariants.{Ok, OkHandle}
 use Rattle.ak_model.specs.Paging.Pages.{pages, cluster_at}
 use Rattle.ak_model.specs.Paging.Holdings.{PageFrame, Place, InFrame, InHandle, Gone}
@@ -20,10 +20,10 @@ use Rattle.ak_model.proofs.Paging.BlockPlaces.{Bounded, block_bounded}
 use Rattle.ak_driver.proofs.Invariant.PageStates.{PageState}
 use Rattle.ak_driver.proofs.Invariant.PagesStand.{PagesStand}
 use Rattle.ak_driver.proofs.Invariant.ServingMoves.{leaving_pages, is_untracked, cycle_left}
-use Rattle.ak_driver.proofs.Pages.MoveSteps.{self, other_frame}
+use Rattle.ak_driver.proofs.Pages.MoveSteps.{other_frame}
 use Rattle.ak_driver.proofs.Pages.MovedPages.{none_kept}
 use Rattle.ak_driver.proofs.Serving.Finding.{Each, each_more, each_both, IsAmong, each_among}
-use Rattle.ak_driver.proofs.Serving.MovesLeft.{IsListed, leaving_listed, one_passes, each_fails, cycle_at_most}
+use Rattle.ak_driver.proofs.Serving.MovesLeft.{leaving_listed, one_passes, each_fails, cycle_at_most}
 
 module _ (layout : Layout) (past : History) (leaving : List ℕ) where
   abbrev left_after : History → Bool

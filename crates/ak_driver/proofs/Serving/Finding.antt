@@ -1,8 +1,9 @@
 -- The first of some pages that passes a test, and which pages a request names.
 use Rattle.std.proofs.Common.{◌≡◌, ℕ, zero, suc, ◌+◌, ◌<◌, ◌≤◌, List, [], ◌∷◌, ◌++◌, arith, refl, sym, ◌∙◌, subst}
-use Rattle.std.specs.Prelude.{Bool, true, false, ◌||◌, if◌then◌else◌, Option, Some, None, find, filter, flat_map, ◌==◌, cond}
+use Rattle.std.specs.Prelude.{All, Bool, true, false, ◌||◌, if◌then◌else◌, Option, Some, None, find, filter, flat_map, ◌==◌, cond}
 use Rattle.std.specs.List.{range_with_len}
 use Rattle.std.proofs.lemmas.Bool.{eqb-true, eqb-false}
+use Rattle.std.proofs.lemmas.List.Elements.{All-nil, All-cons}
 use Rattle.std.proofs.lemmas.Bool.Decides.{nat_tests}
 use Rattle.ak_core.specs.Layout.{Layout}
 use Rattle.ak_model.specs.Paging.Pages.{pages, pages_of, cluster_at}
@@ -12,6 +13,10 @@ use Rattle.ak_model.specs.Clusters.Queue.{is_in}
 abbrev pub Each : (ℕ → Type 0) → List ℕ → Type 0
 Each P [] = Unit {0}
 Each P (x ∷ xs) = P x × Each P xs
+
+pub each_all : (P : ℕ → Type 0) (xs : List ℕ) → Each P xs → All P xs
+each_all P [] e = All-nil P
+each_all P (x ∷ xs) e = All-cons P x xs e.0 (each_all P xs e.1)
 
 pub each_more : (P Q : ℕ → Type 0) (xs : List ℕ) → ((x : ℕ) → P x → Q x) → Each P xs → Each Q xs
 each_more P Q [] h e = tt

@@ -10,7 +10,6 @@ use Rattle.ak_model.specs.Paging.Pages.{pages, pages_of, cluster_at, perm_of, st
 use Rattle.ak_model.specs.Paging.Histories.{History}
 use Rattle.ak_model.specs.Paging.Frames.{blocked_at}
 use Rattle.ak_model.specs.Paging.PageTable.{pte}
-use Rattle.ak_model.specs.Paging.Tracking.{tracked}
 use Rattle.ak_model.specs.Control.ControlState.{Control}
 use Rattle.ak_model.specs.Kernels.Counted.{service}
 use Rattle.ak_model.specs.Kernels.KernelRules.{is_mapped}
@@ -21,10 +20,10 @@ use Rattle.ak_driver.specs.HonestRuns.{IsRoomy}
 use Rattle.ak_driver.proofs.Invariant.PageStates.{PageState, Out, Blocked, In}
 use Rattle.ak_driver.proofs.Invariant.Spots.{Requested, Progress}
 use Rattle.ak_driver.proofs.Invariant.HonestMoments.{IsHonest, IsFetched, IsMoving, dropped_for}
-use Rattle.ak_driver.proofs.Invariant.ServingMoves.{Serves, HasRoom}
+use Rattle.ak_driver.proofs.Invariant.ServingMoves.{Serves, HasRoom, is_untracked}
 use Rattle.ak_driver.proofs.Serving.Finding.{Each, each_both, Found, finds, IsOf, IsAmong, each_of, each_among, among_listed}
 use Rattle.ak_driver.proofs.Serving.ServingSteps.{serves_unmap, serves_block, serves_track, serves_write, serves_load, serves_map}
-use Rattle.ak_driver.proofs.Serving.StateViews.{present_in, in_present, loose_or, blocked_or, out_or, loose_in}
+use Rattle.ak_driver.proofs.Serving.StateViews.{present_in, in_present, unmapped_or, blocked_or, out_or, unmapped_in}
 
 module _ (layout : Layout) (past : History) (control : Control) (c : ℕ) (rest : Progress) (states : ℕ → PageState) (valid : IsValid layout) (roomy : IsRoomy layout) (copies : OneCopy layout past) (old : IsHonest layout past control (Requested c) rest states) (room : HasRoom layout past c states) where
   abbrev pub leaving : List ℕ
@@ -63,11 +62,8 @@ module _ (layout : Layout) (past : History) (control : Control) (c : ℕ) (rest 
   abbrev pub is_present : ℕ → Bool
   is_present p = (pte layout past p).flags.p
 
-  abbrev pub is_loose : ℕ → Bool
-  is_loose p = on_frame (frame_of layout past p) (λ f. is_none (blocked_at past f))
-
-  abbrev pub is_untracked : ℕ → Bool
-  is_untracked p = on_frame (frame_of layout past p) (λ f. not (tracked layout past f))
+  abbrev pub is_unblocked : ℕ → Bool
+  is_unblocked p = on_frame (frame_of layout past p) (λ f. is_none (blocked_at past f))
 
   -- the entry, once no evicted page is in a frame, and each fetched one is mapped
   pub record Enters (m : Move) : Type 0 where
@@ -87,19 +83,19 @@ module _ (layout : Layout) (past : History) (control : Control) (c : ℕ) (rest 
   unmap_ruled = first_rule Does (IsAmong layout leaving) is_present evicted _ (each_among layout leaving)
       (λ p h t. inl (serves_unmap layout past control c rest states valid roomy copies old p h.0 h.1 (present_in layout past states copies old.stands p h.0 t)))
 
-  block_ruled : Each (λ p. is_present p ≡ false) evicted → Ruled Does (Each (λ p. is_loose p ≡ false) evicted) (block_rule layout past evicted)
-  block_ruled bare = first_rule Does (λ p. IsAmong layout leaving p × (is_present p ≡ false)) is_loose evicted _ (each_both _ _ evicted (each_among layout leaving) bare)
+  block_ruled : Each (λ p. is_present p ≡ false) evicted → Ruled Does (Each (λ p. is_unblocked p ≡ false) evicted) (block_rule layout past evicted)
+  block_ruled bare = first_rule Does (λ p. IsAmong layout leaving p × (is_present p ≡ false)) is_unblocked evicted _ (each_both _ _ evicted (each_among layout leaving) bare)
       (λ p h t.
-      let v = loose_or layout past states copies old.stands p h.0.0 t (not_in p h.0.0 h.1) in
-      subst (λ o. Ruled Does (Each (λ x. is_loose x ≡ false) evicted) (move_on o (λ f. Eblock (record { 0 = f })))) (sym (ap frame_in v.2))
+      let v = unmapped_or layout past states copies old.stands p h.0.0 t (not_in p h.0.0 h.1) in
+      subst (λ o. Ruled Does (Each (λ x. is_unblocked x ≡ false) evicted) (move_on o (λ f. Eblock (record { 0 = f })))) (sym (ap frame_in v.2))
       (inl (serves_block layout past control c rest states valid roomy copies old p v.0 h.0.0 h.0.1 v.1 v.2)))
 
-  track_ruled : Each (λ p. is_loose p ≡ false) evicted → Ruled Does (Each (λ p. is_untracked p ≡ false) evicted) (track_rule layout past evicted)
-  track_ruled blocked = first_rule Does (IsAmong layout leaving) is_untracked evicted _ (each_among layout leaving)
+  track_ruled : Each (λ p. is_unblocked p ≡ false) evicted → Ruled Does (Each (λ p. is_untracked layout past p ≡ false) evicted) (track_rule layout past evicted)
+  track_ruled blocked = first_rule Does (IsAmong layout leaving) (is_untracked layout past) evicted _ (each_among layout leaving)
       (λ p h t. inl (serves_track layout past control c rest states valid roomy copies old blocked p h.0 h.1 t))
 
-  write_ruled : Each (λ p. is_loose p ≡ false) evicted → Each (λ p. is_untracked p ≡ false) evicted → Ruled Does (Each (λ p. is_some (frame_of layout past p) ≡ false) evicted) (write_out_rule layout past evicted)
-  write_ruled blocked tracked_all = first_rule Does (λ p. IsAmong layout leaving p × ((is_loose p ≡ false) × (is_untracked p ≡ false))) (λ p. is_some (frame_of layout past p)) evicted _
+  write_ruled : Each (λ p. is_unblocked p ≡ false) evicted → Each (λ p. is_untracked layout past p ≡ false) evicted → Ruled Does (Each (λ p. is_some (frame_of layout past p) ≡ false) evicted) (write_out_rule layout past evicted)
+  write_ruled blocked tracked_all = first_rule Does (λ p. IsAmong layout leaving p × ((is_unblocked p ≡ false) × (is_untracked layout past p ≡ false))) (λ p. is_some (frame_of layout past p)) evicted _
       (each_both _ _ evicted (each_among layout leaving) (each_both _ _ evicted blocked tracked_all))
       (λ p h t.
       let v = blocked_or layout past states copies old.stands p h.0.0 t h.1.0 h.1.1 in
@@ -139,7 +135,7 @@ module _ (layout : Layout) (past : History) (control : Control) (c : ℕ) (rest 
   map_ruled : Each (λ p. is_none (frame_of layout past p) ≡ false) fetched → Ruled Does (Each (λ p. not (is_mapped layout past p) ≡ false) fetched) (map_rule layout past fetched)
   map_ruled loaded = first_rule Does (λ p. IsOf layout c p × (is_none (frame_of layout past p) ≡ false)) (λ p. not (is_mapped layout past p)) fetched _ (each_both _ _ fetched (each_of layout c) loaded)
       (λ p h t.
-      let v = loose_in layout past states copies old.stands p h.0.0 h.1 (not-true (is_mapped layout past p) t) (never_blocked p h.0.0 h.0.1) in
+      let v = unmapped_in layout past states copies old.stands p h.0.0 h.1 (not-true (is_mapped layout past p) t) (never_blocked p h.0.0 h.0.1) in
       subst (λ o. Ruled Does (Each (λ x. not (is_mapped layout past x) ≡ false) fetched) (move_on o (λ f. SetPte (record { 0 = p }) (record { 0 = f }) (strong_flags (perm_of layout p))))) (sym (ap frame_in v.2))
       (inl (serves_map layout past control c rest states valid roomy copies old p v.0 h.0.0 h.0.1 v.1 v.2)))
 

@@ -1,7 +1,6 @@
 -- The moves that serve a request: each is granted and keeps the invariant.
-use Rattle.std.proofs.Common.{◌≡◌, ℕ, zero, ◌+◌, ◌<◌, ◌≤◌, List, ◌∷◌, arith, refl, sym, ◌∙◌, subst}
+use Rattle.std.proofs.Common.{◌≡◌, ℕ, ◌+◌, ◌<◌, ◌≤◌, List, ◌∷◌, arith, refl, sym, ◌∙◌, subst}
 use Rattle.std.specs.Prelude.{Bool, true, false, if◌then◌else◌, Some, None, is_some, is_none, ◌==◌}
-use Rattle.std.specs.List.{list_any}
 use Rattle.std.proofs.lemmas.Bool.{eqb-true}
 use Rattle.std.proofs.lemmas.Bool.Decides.{nat_tests}
 use Rattle.ak_core.specs.Layout.{Layout, IsValid}
@@ -27,13 +26,13 @@ use Rattle.ak_driver.proofs.Invariant.PageStates.{PageState, Out, Unmapped, Bloc
 use Rattle.ak_driver.proofs.Invariant.PagesStand.{PagesStand, with_state}
 use Rattle.ak_driver.proofs.Invariant.Spots.{Requested, Progress}
 use Rattle.ak_driver.proofs.Invariant.HonestMoments.{IsHonest, IsMoving, dropped_for}
-use Rattle.ak_driver.proofs.Invariant.ServingMoves.{Serves, leaving_pages, is_untracked, cycle_left, page_left, moves_left}
+use Rattle.ak_driver.proofs.Invariant.ServingMoves.{Serves, leaving_pages, is_untracked, cycle_left, page_left}
 use Rattle.ak_driver.proofs.Turns.EnteringMoves.{done_granted, nobody}
 use Rattle.ak_driver.proofs.Pages.GrantedMoves.{set_granted, block_granted, track_granted, write_granted, load_granted}
 use Rattle.ak_driver.proofs.Pages.MovedPages.{tracks, writes_out, loads}
 use Rattle.ak_driver.proofs.Pages.MoveSteps.{unmaps, maps, blocks}
 use Rattle.ak_driver.proofs.Serving.Finding.{Each}
-use Rattle.ak_driver.proofs.Serving.MovesLeft.{IsListed, leaving_listed, leaving_served, fetched_served, one_passes, state_less}
+use Rattle.ak_driver.proofs.Serving.MovesLeft.{leaving_listed, leaving_served, fetched_served, one_passes, state_less}
 use Rattle.ak_driver.proofs.Serving.CyclesLeft.{block_left, track_left, write_left, load_left}
 
 -- less is left for a page, and no more for a cycle

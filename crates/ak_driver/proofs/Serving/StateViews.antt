@@ -59,9 +59,9 @@ module _ (layout : Layout) (past : History) (states : ℕ → PageState) (copies
       shown Rw = refl
       shown Rx = refl
 
-  -- a page in a frame that is not blocked, and not mapped, is loose
-  pub loose_or : on_frame (frame_of layout past p) (λ f. is_none (blocked_at past f)) ≡ true → (states p ≡ In → ⊥) → (f : ℕ) × (states p ≡ Unmapped) × (place layout past p ≡ InFrame f)
-  loose_or t unmapped = by (states p) refl
+  -- a page in a frame that is not blocked is unmapped, or else in
+  pub unmapped_or : on_frame (frame_of layout past p) (λ f. is_none (blocked_at past f)) ≡ true → (states p ≡ In → ⊥) → (f : ℕ) × (states p ≡ Unmapped) × (place layout past p ≡ InFrame f)
+  unmapped_or t unmapped = by (states p) refl
     where
       by : (s : PageState) → states p ≡ s → (f : ℕ) × (states p ≡ Unmapped) × (place layout past p ≡ InFrame f)
       by Out e = absurd (let a = ap (λ x. on_frame (frame_in x) (λ f. is_none (blocked_at past f))) (said Out e).0.placed in clash (sym t ∙ a))
@@ -99,9 +99,9 @@ module _ (layout : Layout) (past : History) (states : ℕ → PageState) (copies
       by Blocked e = absurd (let h = (said Blocked e).0 in held_not h.frame h.placed)
       by In e = absurd (let h = (said In e).0 in held_not h.frame h.placed)
 
-  -- a page in a frame that is not mapped and not blocked is loose
-  pub loose_in : is_none (frame_of layout past p) ≡ false → is_mapped layout past p ≡ false → (states p ≡ Blocked → ⊥) → (f : ℕ) × (states p ≡ Unmapped) × (place layout past p ≡ InFrame f)
-  loose_in t m free = by (states p) refl
+  -- so is one in a frame that no walk finds, unless it is blocked
+  pub unmapped_in : is_none (frame_of layout past p) ≡ false → is_mapped layout past p ≡ false → (states p ≡ Blocked → ⊥) → (f : ℕ) × (states p ≡ Unmapped) × (place layout past p ≡ InFrame f)
+  unmapped_in t m free = by (states p) refl
     where
       by : (s : PageState) → states p ≡ s → (f : ℕ) × (states p ≡ Unmapped) × (place layout past p ≡ InFrame f)
       by Out e = absurd (let a = ap (λ x. is_none (frame_in x)) (said Out e).0.placed in clash (sym a ∙ t))

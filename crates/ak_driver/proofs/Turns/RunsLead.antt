@@ -19,7 +19,7 @@ use Rattle.ak_model.proofs.Control.OrderlyTurns.{turn_fits}
 use Rattle.ak_model.proofs.Clusters.ValidClusters.{clusters_fit}
 use Rattle.ak_driver.proofs.Invariant.PageStates.{PageState}
 use Rattle.ak_driver.proofs.Invariant.PagesStand.{PagesStand}
-use Rattle.ak_driver.proofs.Invariant.Spots.{Fault, ByVector, ByDenial, ByMiss, AnswerStep, Begins, Probes, Finishes, Spot, Idle, Entered, InProgram, Leaving, Left, Handling, Requested, Answering, Resumable, Over, Progress, control_at, is_within}
+use Rattle.ak_driver.proofs.Invariant.Spots.{ByVector, ByDenial, ByMiss, AnswerStep, Begins, Probes, Finishes, Spot, Idle, Entered, InProgram, Leaving, Left, Handling, Requested, Answering, Resumable, Over, Progress, control_at, is_within}
 use Rattle.ak_driver.proofs.Invariant.HonestMoments.{MayBe, IsPlain, dropped_for}
 use Rattle.ak_driver.proofs.Invariant.TurnsLead.{GoesOn, Leads, RunLeads}
 use Rattle.ak_driver.proofs.Turns.EnteringMoves.{or_true}

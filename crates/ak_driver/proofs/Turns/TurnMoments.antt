@@ -1,6 +1,6 @@
 -- The invariant holds before each turn of a run of processor 0.
-use Rattle.std.proofs.Common.{◌≡◌, ℕ, List, [], ◌∷◌, map, reverse, refl, sym, ◌∙◌, subst, ap}
-use Rattle.std.specs.Prelude.{true, false, All}
+use Rattle.std.proofs.Common.{◌≡◌, ℕ, List, [], ◌∷◌, reverse, sym, ◌∙◌, subst}
+use Rattle.std.specs.Prelude.{true, All}
 use Rattle.std.proofs.lemmas.List.Elements.{All-nil, All-cons, All-map, All-weaker}
 use Rattle.ak_core.specs.Layout.{Layout, IsValid}
 use Rattle.ak_core.specs.declared.moves.Move.TheVariants.{Run}
@@ -10,15 +10,14 @@ use Rattle.ak_model.specs.Paging.Inside.{inside}
 use Rattle.ak_model.specs.Clusters.Queue.{is_in}
 use Rattle.ak_model.specs.Control.ControlState.{Control}
 use Rattle.ak_model.specs.Control.Runs.{before_turns}
-use Rattle.ak_model.specs.Control.Trace.{Moment}
 use Rattle.ak_model.specs.Control.Moments.{turn_moments}
 use Rattle.ak_model.specs.Kernels.Counted.{service}
 use Rattle.ak_model.specs.Laws.OneLiveCopy.{OneCopy}
 use Rattle.ak_model.specs.Laws.Orderly.{IsOrderly}
 use Rattle.ak_model.proofs.Paging.Tests.{All-reverse}
 use Rattle.ak_driver.proofs.Invariant.PageStates.{PageState}
-use Rattle.ak_driver.proofs.Invariant.Spots.{Spot, Progress, control_at, is_within}
-use Rattle.ak_driver.proofs.Invariant.HonestMoments.{IsHonest, HonestMoment, HonestAt, MayBe, AreApart, dropped_for}
+use Rattle.ak_driver.proofs.Invariant.Spots.{Spot, Progress, is_within}
+use Rattle.ak_driver.proofs.Invariant.HonestMoments.{IsHonest, HonestAt, MayBe, AreApart, dropped_for}
 use Rattle.ak_driver.proofs.Invariant.TurnsLead.{GoesOn}
 use Rattle.ak_driver.proofs.Turns.EnteringMoves.{within_resumable}
 use Rattle.ak_driver.proofs.Turns.RunMove.{within_going}
