@@ -11,8 +11,7 @@ use Rattle.std.specs.Prelude.{Some, ◌^◌, ◌/◌, ◌%◌, flat_map, slice_g
 use Rattle.byteorder.specs.Endian.{little_bytes}
 use borrow.Rule.Slice.PartMut.{put_mid}
 use Rattle.ak_core.specs.Mem.{put_at}
-use Rattle.ak_model.specs.Flat.Instructions.{le_bytes, le_value}
-use Rattle.ak_cluster.specs.Numbers.{number_at}
+use Rattle.ak_model.specs.Flat.Instructions.{le_bytes, le_value, number_at}
 use Rattle.ak_cluster.specs.QueueBytes.{IsQueue, HasQueue, KeepsOthers, with_queue}
 use Rattle.ak_cluster.proofs.Queues.{few_clusters}
 

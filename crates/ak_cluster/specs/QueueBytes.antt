@@ -2,9 +2,8 @@
 -- 2 bytes, the next to leave first. (The runtime and its STATE page are this project's own.)
 use Rattle.std.specs.Prelude.{◌≡◌, ℕ, ◌+◌, ◌*◌, ◌<◌, List, take, drop, length, slice_get, flat_map, All, Some}
 use Rattle.ak_core.specs.Mem.{put_at}
-use Rattle.ak_model.specs.Flat.Instructions.{le_bytes}
+use Rattle.ak_model.specs.Flat.Instructions.{le_bytes, number_at}
 use Rattle.ak_model.specs.Laws.Orderly.{IsDistinct}
-use Rattle.ak_cluster.specs.Numbers.{number_at}
 
 -- what any queue is: different clusters, each below 512
 pub record IsQueue (queue : List ℕ) : Type 0 where

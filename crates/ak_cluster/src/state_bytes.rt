@@ -1,8 +1,7 @@
 // The queue's numbers in the bytes of STATE.
 ghost use Rattle.std.specs.Prelude.{◌≡◌, ◌≤◌, ◌<◌, ◌+◌, ◌*◌, length, flat_map};
 ghost use Rattle.ak_core.specs.Mem.{put_at};
-ghost use Rattle.ak_model.specs.Flat.Instructions.{le_bytes};
-ghost use Rattle.ak_cluster.specs.Numbers.{number_at};
+ghost use Rattle.ak_model.specs.Flat.Instructions.{le_bytes, number_at};
 
 use ak_core::PAGE_SIZE;
 use byteorder::{ByteOrder, LittleEndian};

@@ -1,5 +1,5 @@
 use Rattle.std.proofs.Common.{◌≡◌, ap, arith, length, rules, subst, sym}
-use Rattle.ak_cluster.specs.Numbers.{number_at}
+use Rattle.ak_model.specs.Flat.Instructions.{number_at}
 use Rattle.ak_cluster.specs.QueueBytes.{IsQueue}
 use Rattle.ak_cluster.proofs.Bytes.{one_queue}
 use Rattle.ak_cluster.proofs.Queues.{few_clusters}

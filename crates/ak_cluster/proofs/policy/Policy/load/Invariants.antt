@@ -1,6 +1,6 @@
 use Rattle.std.proofs.Common.{◌≡◌, ◌<◌, ◌≤◌, ◌+◌, ◌*◌, ℕ, length}
 use Rattle.std.specs.Prelude.{slice_index}
-use Rattle.ak_cluster.specs.Numbers.{number_at}
+use Rattle.ak_model.specs.Flat.Instructions.{number_at}
 use Rattle.ak_cluster.proofs.policy.Policy.load.Given as goal
 
 abbrev pub invariant-loop-i : goal.invariant-loop-i
