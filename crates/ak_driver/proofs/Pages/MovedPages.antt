@@ -1,6 +1,6 @@
 -- Tracking, writing out and loading: what they do to the states of pages.
-use Rattle.std.proofs.Common.{◌≡◌, ℕ, ◌+◌, ◌-◌, ◌<◌, ◌≤◌, List, [], ◌∷◌, arith, refl, sym, ◌∙◌, subst}
-use Rattle.std.specs.Prelude.{Bool, true, false, None, filter, nat_lt, ◌==◌}
+use Rattle.std.proofs.Common.{◌≡◌, ℕ, ◌+◌, ◌-◌, ◌<◌, ◌≤◌, ◌∷◌, arith, refl, sym, ◌∙◌, subst}
+use Rattle.std.specs.Prelude.{Bool, true, false, None, nat_lt, ◌==◌}
 use Rattle.std.proofs.lemmas.Bool.{ne_eqb, ltb-true, ltb-false, eqb-true, eqb-false}
 use Rattle.ak_core.specs.Layout.{Layout}
 use Rattle.ak_core.specs.declared.moves.Move.TheVariants.{Etrack, Ewb, Eldu}
@@ -12,15 +12,11 @@ use Rattle.ak_model.specs.Paging.Frames.{held}
 use Rattle.ak_model.specs.Paging.Handles.{given, place}
 use Rattle.ak_model.specs.Paging.Inside.{inside, processors}
 use Rattle.ak_model.specs.Laws.OneLiveCopy.{OneCopy}
+use Rattle.ak_model.proofs.Paging.Tests.{filter_none}
 use Rattle.ak_driver.proofs.Invariant.PageStates.{PageState, Out, Unmapped, Blocked, IsInState}
 use Rattle.ak_driver.proofs.Invariant.PagesStand.{PagesStand, with_state}
 use Rattle.ak_driver.proofs.Pages.ChangedStates.{frame_changes, same}
 use Rattle.ak_driver.proofs.Pages.MoveSteps.{full, self, other_frame, each_by}
-
--- where the test fails everywhere, the filter keeps nothing
-pub none_kept : (test : ℕ → Bool) (xs : List ℕ) → ((x : ℕ) → test x ≡ false) → filter test xs ≡ []
-none_kept test [] h = refl
-none_kept test (x ∷ xs) h = let e = h x in rw e (none_kept test xs h)
 
 module _ (layout : Layout) (past : History) (states : ℕ → PageState) (old : PagesStand layout past states) where
   -- ---- (c) a tracking cycle, while nobody is inside: it is over at once
@@ -32,7 +28,7 @@ module _ (layout : Layout) (past : History) (states : ℕ → PageState) (old : 
   tracks nobody = record {
     untouched = record {
       same = old.untouched.same;
-      over = let e = none_kept (inside past) (processors layout) nobody in let o = old.untouched.over in rw e o;
+      over = let e = filter_none (inside past) (processors layout) nobody in let o = old.untouched.over in rw e o;
     };
     each = old.each;
   }

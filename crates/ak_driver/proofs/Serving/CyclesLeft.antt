@@ -16,12 +16,12 @@ use Rattle.ak_model.specs.Paging.Tracking.{Cycle, cycles, over_after, tracked}
 use Rattle.ak_model.specs.Clusters.Queue.{is_in}
 use Rattle.ak_model.specs.Kernels.HonestKernel.{frame_in, frame_of, on_frame}
 use Rattle.ak_model.specs.Laws.OneLiveCopy.{OneCopy}
+use Rattle.ak_model.proofs.Paging.Tests.{filter_none}
 use Rattle.ak_model.proofs.Paging.BlockPlaces.{Bounded, block_bounded}
 use Rattle.ak_driver.proofs.Invariant.PageStates.{PageState}
 use Rattle.ak_driver.proofs.Invariant.PagesStand.{PagesStand}
 use Rattle.ak_driver.proofs.Invariant.ServingMoves.{leaving_pages, is_untracked, cycle_left}
 use Rattle.ak_driver.proofs.Pages.MoveSteps.{other_frame}
-use Rattle.ak_driver.proofs.Pages.MovedPages.{none_kept}
 use Rattle.ak_driver.proofs.Serving.Finding.{Each, each_more, each_both, IsAmong, each_among}
 use Rattle.ak_driver.proofs.Serving.MovesLeft.{leaving_listed, one_passes, each_fails, cycle_at_most}
 
@@ -49,7 +49,7 @@ module _ (layout : Layout) (past : History) (leaving : List ℕ) where
     over : (b : Option ℕ) → is_none b ≡ false → Bounded (length past) b → not (over_after b (new_cycle ∷ cycles layout past)) ≡ false
     over None h l = absurd (cc)
     over (Some at) h l =
-        let t = lt-ltb at (length past + 1) (omega arith) in let n = none_kept (inside past) (processors layout) nobody in
+        let t = lt-ltb at (length past + 1) (omega arith) in let n = filter_none (inside past) (processors layout) nobody in
         rw (t, n) refl
 
     now_tracked : (o : Option ℕ) → on_frame o (λ f. is_none (blocked_at past f)) ≡ false → on_frame o (λ f. not (over_after (blocked_at past f) (new_cycle ∷ cycles layout past))) ≡ false

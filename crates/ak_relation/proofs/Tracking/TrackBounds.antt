@@ -49,11 +49,6 @@ pub built_without : (lp n : ℕ) (all : List Cycle) → AreBuilt n all → AreBu
 built_without lp n [] h = tt
 built_without lp n (cycle ∷ older) h = (h.0, ap (filter (λ q. not (q == lp))) h.1, built_without lp n older h.2)
 
--- nothing passes
-pub filter_none : (test : ℕ → Bool) (xs : List ℕ) → ((x : ℕ) → test x ≡ false) → filter test xs ≡ []
-filter_none test [] h = refl
-filter_none test (x ∷ xs) h = let e = h x in rw e (filter_none test xs h)
-
 -- tests that agree
 pub filter_same : (f g : ℕ → Bool) (xs : List ℕ) → ((x : ℕ) → f x ≡ g x) → filter f xs ≡ filter g xs
 filter_same f g [] h = refl
