@@ -38,8 +38,8 @@ fn pages_are_kept_until_they_are_discarded(rt: HostRuntime) -> Result<(), Fail> 
             None,
             "handle {number} of none"
         );
-        assert!(rt; !sealed.discard(Handle(number)), "handle {number} of none");
     }
+    assert!(rt; !sealed.discard(Handle(0)), "handle 0 of none");
     sealed.reserve(3)?;
     let first = sealed.put(REGULAR, &[1; PAGE_SIZE]);
     let second = sealed.put(TCS, &[2; PAGE_SIZE]);
