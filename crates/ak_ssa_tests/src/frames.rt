@@ -1,4 +1,6 @@
 // The 200 bytes of saved frames, field by field.
+ghost use Rattle.std.specs.Prelude.{◌+◌, ◌≤◌, length};
+
 use ak_core::{Kind, Mode, Regs};
 use ak_ssa::{FRAME_SIZE, Why, frame};
 
@@ -29,7 +31,7 @@ const MIXED: u64 = 0x8877_6655_4433_2211;
 
 const MIXED_BYTES: [u8; 8] = [0x11, 0x22, 0x33, 0x44, 0x55, 0x66, 0x77, 0x88];
 
-const ZEROS: [u8; 8] = [0; 8];
+pub const ZEROS: [u8; 8] = [0; 8];
 
 // The bytes of a frame that is saved over others.
 fn saved(regs: &Regs, why: Why) -> [u8; FRAME_SIZE] {
@@ -38,8 +40,15 @@ fn saved(regs: &Regs, why: Why) -> [u8; FRAME_SIZE] {
     bytes
 }
 
+// Puts a field at its place.
+fn put(bytes: &mut [u8; FRAME_SIZE], place: usize, field: &[u8])
+    requires { place + length field.now ≤ 200 }
+{
+    bytes[place..place + field.len()].copy_from_slice(field);
+}
+
 // The bytes of a frame whose sixteen registers are zero, by MADDR, ERRCD, RFLAGS, RIP, EXITINFO and the mode.
-fn laid_out(
+pub fn laid_out(
     address: [u8; 8],
     code: u8,
     flags: [u8; 2],
@@ -48,12 +57,12 @@ fn laid_out(
     mode: u8,
 ) -> [u8; FRAME_SIZE] {
     let mut bytes = [0; FRAME_SIZE];
-    bytes[..8].copy_from_slice(&address);
-    bytes[8] = code;
-    bytes[144..146].copy_from_slice(&flags);
-    bytes[152..160].copy_from_slice(&rip);
-    bytes[176..180].copy_from_slice(&info);
-    bytes[180] = mode;
+    put(&mut bytes, 0, &address);
+    put(&mut bytes, 8, &[code]);
+    put(&mut bytes, 144, &flags);
+    put(&mut bytes, 152, &rip);
+    put(&mut bytes, 176, &info);
+    put(&mut bytes, 180, &[mode]);
     bytes
 }
 

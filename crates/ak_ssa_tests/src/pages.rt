@@ -1,5 +1,7 @@
 // Saved frames in their pages.
-use crate::frames::{CLEAR, FULL};
+ghost use Rattle.std.specs.Prelude.{◌+◌, ◌<◌, ◌^◌};
+
+use crate::frames::{CLEAR, FULL, ZEROS, laid_out};
 use ak_core::{Kind, Mode, PAGE_SIZE, Regs};
 use ak_ssa::{
     AREA_PLACE, FRAME_SIZE, STATE_PLACE, Why, clear_valid, frame, guard, load, save, why,
@@ -32,31 +34,38 @@ fn saved_loaded_and_cleared(rt: HostRuntime) {
     }
 }
 
+// The last 200 bytes of a page with the guard's frame, and whether the bytes below stayed.
+fn guarded(code: u64) -> ([u8; FRAME_SIZE], bool)
+    requires { code + 16 < 2 ^ 64 }
+{
+    let mut page = [0xaa; PAGE_SIZE];
+    guard(&mut page, code);
+    let mut bytes = [0; FRAME_SIZE];
+    bytes.copy_from_slice(&page[AREA_PLACE..]);
+    (bytes, page[..AREA_PLACE].iter().all(|byte| *byte == 0xaa))
+}
+
+// The bytes of a guard's frame with this RIP.
+fn guard_at(rip: [u8; 8]) -> ([u8; FRAME_SIZE], bool) {
+    (laid_out(ZEROS, 0, [2, 0], rip, [0; 4], 1), true)
+}
+
 #[test]
 fn the_guard(rt: HostRuntime) {
-    for (code, rip) in [
-        (0, [16, 0, 0, 0, 0, 0, 0, 0]),
-        (0x1000_5000, [0x10, 0x50, 0, 0x10, 0, 0, 0, 0]),
-        (0xffff_ffff_ffff_ffef, [0xff; 8]),
-    ] {
-        let mut page = [0xaa; PAGE_SIZE];
-        guard(&mut page, code);
-        let mut want = [0xaa; PAGE_SIZE];
-        want[3896..].fill(0);
-        want[4040] = 2;
-        want[4048..4056].copy_from_slice(&rip);
-        want[4076] = 1;
-        assert_eq!(rt; page, want, "CODE at {code:x}");
-        assert_eq!(rt; why(&page), Why::Interrupt);
-        assert_eq!(rt;
-            load(&page),
-            Regs {
-                rip: code + 16,
-                mode: Mode::Runtime,
-                ..CLEAR
-            }
-        );
-    }
+    assert_eq!(rt; guarded(0), guard_at([16, 0, 0, 0, 0, 0, 0, 0]));
+    assert_eq!(rt;
+        guarded(0x1000_5000),
+        guard_at([0x10, 0x50, 0, 0x10, 0, 0, 0, 0])
+    );
+    assert_eq!(rt; guarded(0xffff_ffff_ffff_ffef), guard_at([0xff; 8]));
+    let (bytes, _) = guarded(0x1000_5000);
+    let regs = Regs {
+        rip: 0x1000_5010,
+        mode: Mode::Runtime,
+        ..CLEAR
+    };
+    assert_eq!(rt; frame::load(&bytes), regs);
+    assert_eq!(rt; frame::why(&bytes), Why::Interrupt);
 }
 
 #[test]
