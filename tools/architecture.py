@@ -1,9 +1,10 @@
 #!/usr/bin/env python3
 """Draws the crates of the repository by layers, as an SVG.
 
-It reads crates.txt, which names each crate and what it stands on, and keeps the crates of the repository alone. The lowest
-layer is at the bottom; a crate's layer is the length of the longest path from it down. An arrow leads from a crate to one
-that it stands on, and is left out where another path says so already. The same input gives the same picture.
+It reads crates.txt, which names each crate and what it stands on, and keeps the crates of the repository alone, but for
+those that hold nothing but another's tests (`NAME_tests`). The lowest layer is at the bottom; a crate's layer is the length of
+the longest path from it down. An arrow leads from a crate to one that it stands on, and is left out where another path says so
+already. The same input gives the same picture.
 """
 import argparse
 import os
@@ -17,12 +18,12 @@ SWEEPS = 24
 
 
 def read_crates(path):
-    """Each crate of the file, with the crates of the file that it stands on."""
+    """Each crate of the file but those of tests, with the crates of the file that it stands on."""
     below = {}
     with open(path, encoding="utf-8") as lines:
         for line in lines:
             head, colon, rest = line.split("#")[0].partition(":")
-            if colon:
+            if colon and not head.split()[0].endswith("_tests"):
                 below[head.split()[0]] = rest.split()
     return {name: sorted(set(used) & set(below)) for name, used in sorted(below.items())}
 

@@ -5,5 +5,4 @@ pub mod Paged
 pub mod Unwritten
 pub mod Products
 pub mod Carrying
-pub mod InFour
 pub mod Within

@@ -4,4 +4,3 @@ pub mod Fetches
 pub mod Accessed
 pub mod Plain
 pub mod Carried
-pub mod FourPages

@@ -6,8 +6,6 @@ mod fetching;
 mod interpreter;
 mod operands;
 mod plain;
-#[cfg(test)]
-mod tests;
 mod transfers;
 mod turn;
 

@@ -12,8 +12,6 @@ mod numbers;
 mod pages;
 mod reading;
 mod spelled;
-#[cfg(test)]
-mod tests;
 
 pub use fault::ImageFault;
 pub use image::Image;

@@ -8,8 +8,6 @@ mod fault;
 mod laws;
 mod measurement;
 mod signers;
-#[cfg(test)]
-mod tests;
 
 pub use document::read_document;
 pub use fault::{DocumentFault, SignersFault};

@@ -18,3 +18,4 @@ pub mod ConcernedPages
 pub mod SincePast
 pub mod WaitingFor
 pub mod OpenFrames
+pub mod BlockPlaces

@@ -19,6 +19,3 @@ pub use real_files::RealFiles;
 pub use real_sink::RealSink;
 pub use sink::{Sink, SinkFault};
 pub use writing::{write_lines, write_three, write_two};
-
-#[cfg(test)]
-mod tests;

@@ -3,7 +3,6 @@ pub mod EnterFacts
 pub mod ResumeFacts
 pub mod EnteredPages
 pub mod EnteredStands
-pub mod LoadedRegisters
 pub mod ResumedPages
 pub mod ResumedStands
 pub mod EnterAnswers

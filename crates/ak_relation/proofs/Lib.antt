@@ -1,5 +1,4 @@
 pub mod Tracking
-pub mod Bytes
 pub mod Leaves
 pub mod Entering
 pub mod Flat

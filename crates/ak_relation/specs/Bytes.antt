@@ -1,7 +1,3 @@
--- What the bytes of pages and saved frames say.
-pub mod SavedFrames
-pub mod SavedRegisters
-pub mod ReadFrames
-pub mod FramesFit
+-- What the bytes of pages say.
 pub mod Contexts
 pub mod Pages

@@ -1,7 +1,6 @@
 // Laws on the relation, a module for each subject.
 
 pub mod built;
-pub mod bytes;
 pub mod entering;
 pub mod leaves;
 pub mod program;

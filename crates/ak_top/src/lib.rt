@@ -7,10 +7,9 @@ mod measure;
 mod report;
 mod run;
 mod session;
-#[cfg(test)]
-mod tests;
 mod top;
 mod trouble;
 mod words;
 
+pub use report::report_text;
 pub use top::autarky;

@@ -1,6 +1,6 @@
 -- What each instruction does to registers and flags, and what it asks of memory. (SDM volume 2, the page of each
 -- instruction; where it leaves a flag undefined, this project says which value it has.)
-use Rattle.std.specs.Prelude.{ℕ, zero, suc, ◌+◌, ◌-◌, ◌*◌, ◌/◌, ◌%◌, ◌^◌, ◌<◌, Bool, false, ◌&&◌, ◌||◌, not, List, [], ◌∷◌, nat_lt, nat_le, ◌==◌, ℤ, pos, negsuc, slice_index, slice_set, bit_and, bit_or, bit_xor, if◌then◌else◌}
+use Rattle.std.specs.Prelude.{ℕ, zero, suc, ◌+◌, ◌-◌, ◌*◌, ◌/◌, ◌%◌, ◌^◌, ◌<◌, Bool, false, ◌&&◌, ◌||◌, not, List, [], ◌∷◌, take, drop, nat_lt, nat_le, ◌==◌, ℤ, pos, negsuc, slice_index, slice_set, bit_and, bit_or, bit_xor, if◌then◌else◌}
 use Rattle.std.specs.Bool.{beq}
 use Rattle.ak_core.specs.declared.registers.Regs.{Regs}
 use Rattle.ak_core.specs.declared.instruction.Cond.{Cond}
@@ -47,6 +47,10 @@ le_bytes (suc n) v = v % 256 ∷ le_bytes n (v / 256)
 abbrev pub le_value : List ℕ → ℕ
 le_value [] = 0
 le_value (b ∷ bytes) = b + 256 * le_value bytes
+
+-- the number in so many bytes at a place
+abbrev pub number_at : List ℕ → ℕ → ℕ → ℕ
+number_at bytes place count = le_value (take count (drop place bytes))
 
 -- ---- Registers and flags
 

@@ -24,7 +24,7 @@ use Rattle.ak_relation.specs.Program.Reaching.{IsForcedBy, BreaksStand}
 use Rattle.ak_relation.specs.Relation.Stands.{copies_at, Stands}
 use Rattle.ak_relation.specs.Premises.Resuming.{ResumesAt}
 use Rattle.ak_relation.specs.Relation.Does.{at_moment}
-use Rattle.ak_relation.proofs.Entering.LoadedRegisters.{area_back}
+use Rattle.ak_ssa.proofs.RegistersReturn.{area_back}
 use Rattle.ak_model.proofs.Paging.OpenFrames.{known-present}
 use Rattle.ak_relation.proofs.Entering.EnterFacts.{IsOpenFrame}
 use Rattle.ak_relation.proofs.Entering.EnteredPages.{none_of, none_place}

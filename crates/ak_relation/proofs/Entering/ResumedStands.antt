@@ -27,14 +27,14 @@ use Rattle.ak_model.specs.Misses.KeptTranslations.{is_among}
 use Rattle.ak_model.proofs.Control.OrderlyMoves.{resume_fits}
 use Rattle.ak_model.proofs.Control.OneInside.{resumes}
 use Rattle.ak_model.proofs.Paging.SomeoneInside.{outside_ok}
-use Rattle.ak_relation.specs.Bytes.SavedFrames.{number_at}
-use Rattle.ak_relation.specs.State.TrackSteps.{EntersBy}
 use Rattle.ak_relation.specs.State.MachineState.{State}
 use Rattle.ak_relation.specs.Bytes.Contexts.{Gives, GivesNow}
 use Rattle.ak_model.specs.Laws.OwedAnswers.{oldest, owing_by}
 use Rattle.ak_relation.specs.Program.FlatPlaces.{IsAtBy}
 use Rattle.ak_model.specs.Laws.Calls.{calls_by, IsAnswered}
 use Rattle.ak_relation.specs.Program.Turns.{is_last, LawsStand}
+use Rattle.ak_model.specs.Flat.Instructions.{number_at}
+use Rattle.ak_track.specs.Steps.{EntersBy}
 use Rattle.ak_relation.specs.State.Tables.{EntriesStand, SealedPageAgrees, MappingStands, TablesStand}
 use Rattle.ak_relation.specs.Program.Reaching.{AreReached, is_filled, granted_to, StaysBy, IsStaying, BreaksStand}
 use Rattle.ak_model.specs.Laws.OpenFrames.{HoldsSince, IsLate}

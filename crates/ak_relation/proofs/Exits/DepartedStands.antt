@@ -17,13 +17,14 @@ use Rattle.ak_model.specs.Paging.Inside.{since}
 use Rattle.ak_model.specs.Control.ControlState.{Running, Program, Reason, Control}
 use Rattle.ak_model.specs.Control.RuntimeTurn.{shown_fault}
 use Rattle.ak_model.specs.Tapes.ProgramTurns.{ProgramTurn}
-use Rattle.ak_relation.specs.Bytes.SavedFrames.{SavedCause, number_at}
-use Rattle.ak_relation.specs.State.TrackSteps.{LeavesBy}
 use Rattle.ak_relation.specs.State.MachineState.{State}
 use Rattle.ak_relation.specs.Bytes.Contexts.{Gives, GivesNow}
 use Rattle.ak_model.specs.Laws.OwedAnswers.{oldest, owing_running, owing_by, owing}
 use Rattle.ak_relation.specs.Program.FlatPlaces.{IsAtBy}
 use Rattle.ak_relation.specs.Program.Turns.{events_by}
+use Rattle.ak_ssa.specs.SavedFrames.{SavedCause}
+use Rattle.ak_model.specs.Flat.Instructions.{number_at}
+use Rattle.ak_track.specs.Steps.{LeavesBy}
 use Rattle.ak_relation.specs.State.Tables.{EntriesStand, SealedPageAgrees, MappingStands, TablesStand}
 use Rattle.ak_relation.specs.Program.Reaching.{StaysBy, IsForcedBy, BreaksStand}
 use Rattle.ak_relation.specs.Relation.Stands.{runs_at, copies_at, Stands}

@@ -26,7 +26,7 @@ use Rattle.ak_model.specs.Tapes.LastMoment.{FlatRuns}
 use Rattle.ak_model.specs.Sound.Events.{TrapIsForced}
 use Rattle.ak_model.specs.Control.EventTurn.{count_of}
 use Rattle.ak_model.specs.Laws.Premises.{MissesFit}
-use Rattle.ak_relation.specs.Bytes.SavedFrames.{SavedCause, area_place, HasFrame}
+use Rattle.ak_ssa.specs.SavedFrames.{SavedCause, area_place, HasFrame}
 use Rattle.ak_relation.specs.State.MachineState.{State}
 use Rattle.ak_relation.specs.Bytes.Contexts.{IsNoted}
 use Rattle.ak_model.specs.Laws.Calls.{calls_in, calls_by, IsAnswered}

@@ -19,7 +19,7 @@ use Rattle.ak_model.specs.Misses.Reached.{MayComplete}
 use Rattle.ak_model.specs.Sound.Forced.{missed_by, queue_by}
 use Rattle.ak_model.specs.Misses.KeptTranslations.{MayFaultUnkept}
 use Rattle.ak_model.proofs.Tapes.EventsTaken.{cluster_below, without_miss, with_miss}
-use Rattle.ak_relation.specs.Bytes.SavedFrames.{ByVector, ByPage}
+use Rattle.ak_ssa.specs.SavedFrames.{ByVector, ByPage}
 use Rattle.ak_relation.specs.State.MachineState.{State}
 use Rattle.ak_relation.specs.Program.FlatPlaces.{Reaches}
 use Rattle.ak_relation.specs.Program.Turns.{listed, events_by, IsGoing}

@@ -12,7 +12,7 @@ use Rattle.ak_model.specs.Clusters.Queue.{is_in}
 use Rattle.ak_model.specs.Paging.Inside.{since, inside}
 use Rattle.ak_model.specs.Flat.FlatRuns.{is_forbidden}
 use Rattle.ak_model.specs.Control.RuntimeTurn.{shown_fault}
-use Rattle.ak_relation.specs.Bytes.SavedFrames.{ByVector, ByPage}
+use Rattle.ak_ssa.specs.SavedFrames.{ByVector, ByPage}
 use Rattle.ak_relation.specs.State.MachineState.{State}
 use Rattle.ak_relation.specs.Premises.Faulting.{ShowsTrap, ShowsFault, SavesFirst}
 use Rattle.ak_relation.specs.Relation.Does.{TurnFollows, past_after, at_moment, GoesTo, IsTurn}

@@ -11,7 +11,7 @@ use Rattle.ak_model.specs.Paging.Inside.{since, inside}
 use Rattle.ak_model.specs.Control.ControlState.{Context, Interrupted}
 use Rattle.ak_model.specs.Control.RuntimeTurn.{save}
 use Rattle.ak_model.specs.Control.Entering.{interrupted_by}
-use Rattle.ak_relation.specs.Bytes.SavedFrames.{NoCause}
+use Rattle.ak_ssa.specs.SavedFrames.{NoCause}
 use Rattle.ak_relation.specs.State.MachineState.{State, copy, OfCopy}
 use Rattle.ak_relation.specs.Bytes.Pages.{IsTcs}
 use Rattle.ak_relation.specs.Program.Reaching.{StaysBy, IsStaying}

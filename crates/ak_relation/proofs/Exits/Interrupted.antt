@@ -21,14 +21,15 @@ use Rattle.ak_model.specs.Sound.Forced.{queue_by}
 use Rattle.ak_model.specs.Laws.Orderly.{ContextFits, NowFits, IsOrderly, is_live}
 use Rattle.ak_model.proofs.Control.OrderlyMoves.{interrupt_fits}
 use Rattle.ak_model.proofs.Control.OneInside.{interrupts}
-use Rattle.ak_relation.specs.Bytes.SavedFrames.{NoCause, number_at}
-use Rattle.ak_relation.specs.State.TrackSteps.{LeavesBy}
 use Rattle.ak_relation.specs.State.MachineState.{State}
 use Rattle.ak_relation.specs.Bytes.Contexts.{Gives, GivesNow}
 use Rattle.ak_model.specs.Laws.OwedAnswers.{oldest, owing_by}
 use Rattle.ak_relation.specs.Program.FlatPlaces.{IsAtBy}
 use Rattle.ak_model.specs.Laws.Calls.{calls_by, IsAnswered}
 use Rattle.ak_relation.specs.Program.Turns.{is_last, LawsStand}
+use Rattle.ak_ssa.specs.SavedFrames.{NoCause}
+use Rattle.ak_model.specs.Flat.Instructions.{number_at}
+use Rattle.ak_track.specs.Steps.{LeavesBy}
 use Rattle.ak_relation.specs.State.Tables.{EntriesStand, MappingStands, TablesStand, SealedPageAgrees}
 use Rattle.ak_relation.specs.Program.Reaching.{StaysBy, IsStaying}
 use Rattle.ak_relation.specs.Relation.Stands.{runs_at, Stands}

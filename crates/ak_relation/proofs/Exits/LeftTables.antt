@@ -16,9 +16,10 @@ use Rattle.ak_model.specs.Laws.Presence.{IsPresent}
 use Rattle.ak_model.specs.Tapes.LastMoment.{FlatRuns}
 use Rattle.ak_model.specs.Tapes.ProgramTurns.{ProgramTurn}
 use Rattle.ak_model.specs.Laws.OneLiveCopy.{Agrees}
-use Rattle.ak_relation.specs.Bytes.SavedFrames.{number_at}
-use Rattle.ak_relation.specs.State.TrackSteps.{LeavesBy, steps_of, steps_after, stamp_of}
+use Rattle.ak_relation.specs.State.TrackSteps.{steps_of, steps_after, stamp_of}
 use Rattle.ak_relation.specs.State.MachineState.{State, copy}
+use Rattle.ak_model.specs.Flat.Instructions.{number_at}
+use Rattle.ak_track.specs.Steps.{LeavesBy}
 use Rattle.ak_relation.specs.State.Tables.{EntriesStand, SlotsStand, SealedPageAgrees, SealedPagesStand, MappingStands, PresenceStands, TrackingStands, TablesStand}
 use Rattle.ak_relation.specs.Program.Reaching.{StaysBy}
 use Rattle.ak_relation.specs.Relation.Stands.{copies_at}

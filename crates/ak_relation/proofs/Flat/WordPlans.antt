@@ -11,7 +11,7 @@ use Rattle.ak_core.specs.declared.registers.Regs.{Regs}
 use Rattle.ak_core.specs.declared.instruction.Instr.{Instr}
 use Rattle.ak_core.specs.declared.instruction.Instr.TheVariants.{MovImm, MovTo, MovFrom, Store, Load, StoreByte, LoadByte, Add, Sub, And, Or, Xor, Compare, Test, Multiply, ShiftLeft, ShiftRight, Divide, Jump, CallNear, JumpIf, Return, Push, Pop, Nop, Undefined, Enclu}
 use Rattle.ak_model.specs.Flat.Instructions.{Plan, RaisesVector, Computes, Reads, Writes, CallsOut, plan, divide, shifted, reg_of, with_reg, moved, is_met, le_bytes, rax, rcx, rdx, rsp, rsi, rdi}
-use Rattle.ak_relation.specs.Bytes.SavedRegisters.{AreWords, AreRegs}
+use Rattle.ak_ssa.specs.SavedRegisters.{AreWords, AreRegs}
 use Rattle.ak_relation.specs.Program.FlatFits.{AreBytes}
 use Rattle.ak_relation.proofs.Flat.Immediates.{ImmediateFits}
 

@@ -17,13 +17,13 @@ use Rattle.ak_model.specs.Flat.Instructions.{Plan, RaisesVector, Computes, Reads
 use Rattle.ak_model.specs.Flat.Encodings.{decode}
 use Rattle.ak_model.specs.Flat.FlatRuns.{Flat, End, Line, line_of, page_at, is_program, bytes_at, overwrite, if_operand, carry_out, perform, straddling, in_first_page, line, is_forbidden, rest_of_page, page_bytes, ending, FlatRun, after_call, after_ending, one_more, flat_run}
 use Rattle.ak_model.proofs.Flat.Decoding.{decode-size}
-use Rattle.ak_relation.specs.Bytes.SavedRegisters.{AreWords}
 use Rattle.ak_relation.specs.Program.FlatPlaces.{Reaches, IsAfterCall, IsAtBy}
 use Rattle.ak_model.specs.Laws.OwedAnswers.{Owing, Settled, Owed, Unknown}
 use Rattle.ak_relation.specs.Program.FlatFits.{AreBytes, FlatFits}
 use Rattle.ak_relation.proofs.Flat.Immediates.{decode-fits}
 use Rattle.ak_relation.proofs.Flat.WordPlans.{PlanWords, plan_words, set_words}
-use Rattle.ak_relation.proofs.Flat.Room.{room}
+use Rattle.ak_ssa.specs.SavedRegisters.{AreWords}
+use Rattle.ak_ssa.proofs.Room.{room}
 
 -- the same of an end
 abbrev EndFits : End → Type 0

@@ -17,8 +17,9 @@ use Rattle.ak_model.specs.Paging.Handles.{given, page_of, discarded, live, gone_
 use Rattle.ak_model.specs.Paging.PageTable.{pte}
 use Rattle.ak_model.proofs.Paging.LiveCopies.{discards}
 use Rattle.ak_model.specs.Control.LeafRows.{leaf_row}
-use Rattle.ak_relation.specs.State.MachineState.{SealedPage, State, copy}
+use Rattle.ak_relation.specs.State.MachineState.{State, copy}
 use Rattle.ak_relation.specs.State.Tables.{SealedPageAgrees, TablesStand}
+use Rattle.ak_sealed.specs.SealedPages.{SealedPage}
 use Rattle.ak_relation.specs.State.MachineView.{view_in}
 use Rattle.ak_relation.specs.Premises.Leaves.{LeafChanges}
 use Rattle.ak_relation.specs.Relation.Does.{IsMove}

@@ -15,8 +15,8 @@ use Rattle.ak_model.specs.Paging.Frames.{held, blocked_at}
 use Rattle.ak_model.specs.Control.LeafRows.{if_page, leaf_row}
 use Rattle.ak_epcm.specs.Entries.{entry_at}
 use Rattle.ak_model.specs.Paging.Views.{view_of}
-use Rattle.ak_relation.specs.State.TrackSteps.{Cycled}
 use Rattle.ak_relation.specs.State.MachineState.{State}
+use Rattle.ak_track.specs.Steps.{Cycled}
 use Rattle.ak_relation.specs.State.MachineView.{view_in}
 use Rattle.ak_relation.specs.Premises.Leaves.{LeafKeeps, LeafChanges}
 use Rattle.ak_relation.specs.Relation.Does.{IsMove}

@@ -15,11 +15,13 @@ use Rattle.ak_model.specs.Laws.OneLiveCopy.{Agrees}
 use Rattle.ak_model.proofs.Paging.LiveCopies.{loads}
 use Rattle.ak_epcm.specs.Entries.{entry_at}
 use Rattle.ak_walk.specs.Agrees.{EntryAgrees}
-use Rattle.ak_relation.specs.Bytes.SavedFrames.{number_at}
-use Rattle.ak_relation.specs.State.TrackSteps.{Cycled, steps_of, stamp_of}
-use Rattle.ak_relation.specs.State.MachineState.{SealedPage, State, copy}
-use Rattle.ak_relation.specs.State.Tables.{version, IsSealedPageOf, SealedPageAgrees, TablesStand}
-use Rattle.ak_relation.specs.Premises.Loading.{entry_of, LoadsFrom}
+use Rattle.ak_relation.specs.State.TrackSteps.{steps_of, stamp_of}
+use Rattle.ak_relation.specs.State.MachineState.{State, copy}
+use Rattle.ak_model.specs.Flat.Instructions.{number_at}
+use Rattle.ak_track.specs.Steps.{Cycled}
+use Rattle.ak_sealed.specs.SealedPages.{SealedPage, version, entry_of}
+use Rattle.ak_relation.specs.State.Tables.{IsSealedPageOf, SealedPageAgrees, TablesStand}
+use Rattle.ak_relation.specs.Premises.Loading.{LoadsFrom}
 
 -- what the row of a load tells
 pub record IsFair (layout : Layout) (past : History) (f k p va i : ℕ) : Type 0 where

@@ -18,12 +18,13 @@ use Rattle.ak_model.specs.Paging.PageTable.{pte}
 use Rattle.ak_model.proofs.Paging.LiveCopies.{makes_va}
 use Rattle.ak_epcm.specs.Entries.{entry_at}
 use Rattle.ak_walk.specs.Agrees.{EntryAgrees, IsOfType}
-use Rattle.ak_relation.specs.Bytes.SavedFrames.{number_at}
 use Rattle.ak_relation.specs.State.TrackSteps.{stamp_of}
 use Rattle.ak_model.specs.Paging.Views.{view_of}
 use Rattle.ak_model.specs.Control.LeafRows.{leaf_row}
 use Rattle.ak_relation.specs.State.MachineState.{State, copy}
-use Rattle.ak_relation.specs.State.Tables.{version, MappingStands, PresenceStands, SealedPageAgrees, TablesStand}
+use Rattle.ak_relation.specs.State.Tables.{MappingStands, PresenceStands, SealedPageAgrees, TablesStand}
+use Rattle.ak_model.specs.Flat.Instructions.{number_at}
+use Rattle.ak_sealed.specs.SealedPages.{version}
 use Rattle.ak_relation.specs.State.MachineView.{view_in}
 use Rattle.ak_relation.specs.Premises.Leaves.{LeafChanges}
 use Rattle.ak_relation.specs.Premises.Making.{MakesSlots}

@@ -16,8 +16,9 @@ use Rattle.ak_model.specs.Paging.Holdings.{Held, PageFrame, Mapping}
 use Rattle.ak_model.specs.Paging.Frames.{held, blocked_at, blocked_after, blocks_first}
 use Rattle.ak_epcm.specs.Entries.{entry_at}
 use Rattle.ak_walk.specs.Agrees.{EntryAgrees, HoldsPage}
-use Rattle.ak_relation.specs.State.TrackSteps.{Cycled, steps_of, stamp_of}
+use Rattle.ak_relation.specs.State.TrackSteps.{steps_of, stamp_of}
 use Rattle.ak_relation.specs.State.MachineState.{State}
+use Rattle.ak_track.specs.Steps.{Cycled}
 use Rattle.ak_relation.specs.State.Tables.{TablesStand}
 use Rattle.ak_relation.specs.Premises.Leaves.{LeafKeeps}
 

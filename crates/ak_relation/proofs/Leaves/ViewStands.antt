@@ -25,10 +25,12 @@ use Rattle.ak_walk.specs.Agrees.{EntryAgrees, HoldsPage}
 use Rattle.ak_model.specs.Paging.Views.{view_of}
 use Rattle.ak_model.specs.Control.LeafRows.{leaf_row, is_leaf}
 use Rattle.ak_model.specs.Laws.SameViews.{SameView}
-use Rattle.ak_relation.specs.State.TrackSteps.{Cycled, steps_of, stamp_of, tracked_by, incomplete_by}
-use Rattle.ak_relation.specs.State.MachineState.{SealedPage, State}
-use Rattle.ak_relation.specs.State.Tables.{version, SealedPageAgrees, TablesStand}
-use Rattle.ak_relation.specs.State.MachineView.{held_by, held_in, handle_in, page_on, view_in}
+use Rattle.ak_relation.specs.State.TrackSteps.{steps_of, stamp_of}
+use Rattle.ak_relation.specs.State.MachineState.{State}
+use Rattle.ak_relation.specs.State.Tables.{SealedPageAgrees, TablesStand}
+use Rattle.ak_track.specs.Steps.{Cycled, tracked_by, incomplete_by}
+use Rattle.ak_sealed.specs.SealedPages.{SealedPage, version, handle_in}
+use Rattle.ak_relation.specs.State.MachineView.{held_by, held_in, page_on, view_in}
 use Rattle.ak_model.proofs.Control.LeafRows.{answer-leaf, leaf_row-same}
 use Rattle.ak_relation.proofs.Leaves.SomeLeaves.{stamp-blocked}
 use Rattle.ak_relation.proofs.Tracking.TrackedBy.{tracked-steps, incomplete-steps}
@@ -68,11 +70,11 @@ page-sealed_page layout (Some sealed_page) live p h is = let s = h.1 in s.page
 -- ---- The view
 
 module _ (layout : Layout) (past : History) (s : State) (h : TablesStand layout past s) where
-  tracked_same : (f : ℕ) (o : Option ℕ) → stamp_of past f ≡ o → is_some o ≡ true → tracked_by layout s.track (Some (s.stamps f)) ≡ tracked layout past f
+  tracked_same : (f : ℕ) (o : Option ℕ) → stamp_of past f ≡ o → is_some o ≡ true → tracked_by layout.lps s.track (Some (s.stamps f)) ≡ tracked layout past f
   tracked_same f None is some = absurd (cc)
   tracked_same f (Some stamp) is some =
-      ap (λ track. tracked_by layout track (Some (s.stamps f))) h.tracking.steps_are
-      ∙ ap (λ n. tracked_by layout (steps_of past ++ replicate h.tracking.built Cycled) (Some n)) (h.tracking.stamped f stamp is)
+      ap (λ track. tracked_by layout.lps track (Some (s.stamps f))) h.tracking.steps_are
+      ∙ ap (λ n. tracked_by layout.lps (steps_of past ++ replicate h.tracking.built Cycled) (Some n)) (h.tracking.stamped f stamp is)
       ∙ sym (tracked-steps layout h.tracking.built past f stamp is)
 
   active_same : (λ (lp : ℕ). (s.processors lp).inside) ≡ inside past
@@ -89,7 +91,7 @@ module _ (layout : Layout) (past : History) (s : State) (h : TablesStand layout 
     live = λ k. live-sealed_page layout (s.sealed_pages k) (live layout past k) (page_of layout past k) (h.sealed_pages.sealed_page k);
     page_of = λ k is. page-sealed_page layout (s.sealed_pages k) (live layout past k) (page_of layout past k) (h.sealed_pages.sealed_page k) is;
     given = h.sealed_pages.numbered;
-    incomplete = ap (incomplete_by layout) h.tracking.steps_are ∙ sym (incomplete-steps layout h.tracking.built past);
+    incomplete = ap (incomplete_by layout.lps) h.tracking.steps_are ∙ sym (incomplete-steps layout h.tracking.built past);
     active = ap (λ inside. list_any inside (processors layout)) active_same;
   }
 

@@ -13,11 +13,12 @@ use Rattle.ak_model.specs.Laws.OneLiveCopy.{Agrees}
 use Rattle.ak_model.proofs.Paging.LiveCopies.{writes_out}
 use Rattle.ak_epcm.specs.Entries.{entry_at}
 use Rattle.ak_walk.specs.Agrees.{EntryAgrees, HoldsPage}
-use Rattle.ak_relation.specs.Bytes.SavedFrames.{number_at}
 use Rattle.ak_relation.specs.State.TrackSteps.{stamp_of}
 use Rattle.ak_relation.specs.State.MachineState.{State, copy}
-use Rattle.ak_relation.specs.State.Tables.{version, IsSealedPageOf, SealedPageAgrees, TablesStand}
-use Rattle.ak_relation.specs.Premises.WriteOut.{sealed_page_of, WritesOutTo}
+use Rattle.ak_relation.specs.State.Tables.{IsSealedPageOf, SealedPageAgrees, TablesStand}
+use Rattle.ak_model.specs.Flat.Instructions.{number_at}
+use Rattle.ak_sealed.specs.SealedPages.{version, sealed_page_of}
+use Rattle.ak_relation.specs.Premises.WriteOut.{WritesOutTo}
 
 -- the entry of the frame is free
 pub freed_entry : (layout : Layout) (b : Bool) (old new : Entry) (h : Held) (o : Option ℕ) → new ≡ (if b then record old { valid = false } else old) → EntryAgrees layout old h o →

@@ -8,11 +8,11 @@ use Rattle.ak_model.specs.Paging.Histories.{History}
 use Rattle.ak_model.specs.Paging.Inside.{since}
 use Rattle.ak_model.specs.Control.ControlState.{Control}
 use Rattle.ak_model.specs.Tapes.ProgramTurns.{ProgramTurn}
-use Rattle.ak_relation.specs.Bytes.SavedFrames.{SavedCause}
-use Rattle.ak_relation.specs.Bytes.SavedRegisters.{AreRegs}
-use Rattle.ak_relation.specs.Bytes.FramesFit.{FrameFits}
 use Rattle.ak_model.specs.Laws.OwedAnswers.{owing}
 use Rattle.ak_relation.specs.Program.FlatFits.{FlatFits}
+use Rattle.ak_ssa.specs.SavedFrames.{SavedCause}
+use Rattle.ak_ssa.specs.SavedRegisters.{AreRegs}
+use Rattle.ak_ssa.specs.FramesFit.{FrameFits}
 use Rattle.ak_relation.specs.State.MachineState.{State}
 use Rattle.ak_relation.specs.Premises.Saving.{Saves}
 use Rattle.ak_relation.specs.Relation.Stands.{Stands}

@@ -11,7 +11,7 @@ use Rattle.ak_model.specs.Control.OneTurn.{Turn}
 use Rattle.ak_model.specs.Control.RuntimeTurn.{guard_top, program_at_bottom, guarded_twice, accesses, step_fault, handle, enter, finish, resume_guard, leave_call, effect, unless_fault}
 use Rattle.ak_model.specs.Control.EventTurn.{due, event_turn}
 use Rattle.ak_model.specs.Control.Runs.{turn_of, turn}
-use Rattle.ak_relation.specs.Bytes.SavedRegisters.{AreWords}
+use Rattle.ak_ssa.specs.SavedRegisters.{AreWords}
 use Rattle.ak_relation.specs.Program.Inputs.{BringsWord, BringsWordNow, BringWords, HasWords, TurnHasWords, InputsStand}
 
 -- one more word

@@ -20,7 +20,7 @@ use Rattle.ak_model.specs.Control.RuntimeTurn.{accesses, effect, leave}
 use Rattle.ak_model.specs.Tapes.ProgramTurns.{ProgramTurn}
 use Rattle.ak_model.specs.Laws.Orderly.{ContextFits, NowFits, is_live}
 use Rattle.ak_model.proofs.Control.OrderlySteps.{ClustersFit}
-use Rattle.ak_relation.specs.Bytes.FramesFit.{HasRoom}
+use Rattle.ak_ssa.specs.FramesFit.{HasRoom}
 use Rattle.ak_relation.specs.State.MachineState.{State, OfCopy}
 use Rattle.ak_relation.specs.Bytes.Contexts.{Gives}
 use Rattle.ak_model.specs.Laws.OwedAnswers.{owing_running}

@@ -11,8 +11,8 @@ use Rattle.ak_model.specs.Control.ControlState.{Phase, New, Running, Calling, As
 use Rattle.ak_model.specs.Control.RuntimeTurn.{enter, handle}
 use Rattle.ak_model.specs.Tapes.ProgramTurns.{ProgramTurn}
 use Rattle.ak_model.specs.Laws.Orderly.{StackFits}
-use Rattle.ak_relation.specs.Bytes.SavedFrames.{SavedFrame}
-use Rattle.ak_relation.specs.Bytes.SavedRegisters.{AreRegs}
+use Rattle.ak_ssa.specs.SavedFrames.{SavedFrame}
+use Rattle.ak_ssa.specs.SavedRegisters.{AreRegs}
 use Rattle.ak_relation.specs.State.MachineState.{State}
 use Rattle.ak_relation.specs.Bytes.Pages.{IsArea, AreasStand, KeepsFrame, IsState}
 use Rattle.ak_relation.specs.Relation.Stands.{copies_at}

@@ -20,7 +20,7 @@ use Rattle.ak_model.specs.Control.Runs.{turn}
 use Rattle.ak_model.specs.Tapes.ProgramTurns.{ProgramTurn}
 use Rattle.ak_model.specs.Laws.Orderly.{after_miss_if, NowFits, is_live}
 use Rattle.ak_model.proofs.Control.OrderlySteps.{ClustersFit}
-use Rattle.ak_relation.specs.Bytes.SavedFrames.{ByPage}
+use Rattle.ak_ssa.specs.SavedFrames.{ByPage}
 use Rattle.ak_relation.specs.State.MachineState.{State}
 use Rattle.ak_relation.specs.Bytes.Contexts.{Gives, GivesNow, reason_for, IsNoted}
 use Rattle.ak_model.specs.Laws.OwedAnswers.{oldest, owing_by}

@@ -16,9 +16,9 @@ use Rattle.ak_model.specs.Control.Runs.{turn}
 use Rattle.ak_model.specs.Tapes.LastMoment.{FlatRuns}
 use Rattle.ak_model.specs.Tapes.ProgramTurns.{ProgramTurn, turn_at}
 use Rattle.ak_model.proofs.Control.OrderlySteps.{ClustersFit}
-use Rattle.ak_relation.specs.Bytes.SavedFrames.{number_at}
 use Rattle.ak_relation.specs.State.MachineState.{State}
 use Rattle.ak_relation.specs.Program.Turns.{events_by, TapeStands, TurnsStand}
+use Rattle.ak_model.specs.Flat.Instructions.{number_at}
 use Rattle.ak_relation.specs.State.Tables.{EntriesStand, SealedPageAgrees, MappingStands, TablesStand}
 use Rattle.ak_relation.specs.Program.Reaching.{AreReached, CachesGranted, granted_to, HoldsTcs, HoldsArea, StaysBy, IsStaying, BreaksStand}
 use Rattle.ak_relation.specs.Relation.Stands.{runs_at, copies_at, BytesStand, Stands}

@@ -13,9 +13,9 @@ use Rattle.ak_model.specs.Clusters.Queue.{drops}
 use Rattle.ak_model.specs.Control.ControlState.{Phase, Running, Asked, Trapped, Dead, Context, Program, Enter, Missed, Saved, Cause, Control, first_cause}
 use Rattle.ak_model.specs.Control.RuntimeTurn.{guard, guard_top, guarded_twice, effect, die, guarded, trap, ask}
 use Rattle.ak_model.specs.Tapes.ProgramTurns.{ProgramTurn}
-use Rattle.ak_relation.specs.Bytes.SavedFrames.{SavedFrame, frame_bytes, area_place, HasFrame}
-use Rattle.ak_relation.specs.Bytes.SavedRegisters.{AreWords, AreRegs}
-use Rattle.ak_relation.specs.Bytes.FramesFit.{FrameFits, HasRoom}
+use Rattle.ak_ssa.specs.SavedFrames.{SavedFrame, frame_bytes, area_place, HasFrame}
+use Rattle.ak_ssa.specs.SavedRegisters.{AreWords, AreRegs}
+use Rattle.ak_ssa.specs.FramesFit.{FrameFits, HasRoom}
 use Rattle.ak_relation.specs.State.MachineState.{State, OfCopy}
 use Rattle.ak_model.specs.Laws.OwedAnswers.{owing, owing_by}
 use Rattle.ak_relation.specs.Program.FlatPlaces.{IsAtBy}

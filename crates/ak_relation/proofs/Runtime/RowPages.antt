@@ -10,8 +10,8 @@ use Rattle.ak_model.specs.Flat.FlatRuns.{Flat, page_bytes}
 use Rattle.ak_model.specs.Tapes.LastMoment.{FlatRuns}
 use Rattle.ak_model.specs.Tapes.ProgramTurns.{ProgramTurn}
 use Rattle.ak_model.specs.Control.ControlState.{Phase, New, Running, Calling, Asked, Ended, Trapped, Dead, Saved}
-use Rattle.ak_relation.specs.Bytes.SavedFrames.{SavedFrame, frame_bytes}
-use Rattle.ak_relation.specs.Bytes.SavedRegisters.{AreRegs}
+use Rattle.ak_ssa.specs.SavedFrames.{SavedFrame, frame_bytes}
+use Rattle.ak_ssa.specs.SavedRegisters.{AreRegs}
 use Rattle.ak_relation.specs.State.MachineState.{State, OfCopy}
 use Rattle.ak_relation.specs.Bytes.Pages.{IsTcs, IsArea, AreasStand, KeepsFrame, IsState, CopiesStand}
 use Rattle.ak_relation.specs.Program.Reaching.{IsForcedBy, BreaksStand}

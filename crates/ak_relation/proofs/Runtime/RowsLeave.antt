@@ -14,8 +14,8 @@ use Rattle.ak_model.specs.Flat.FlatRuns.{Flat}
 use Rattle.ak_model.specs.Control.ControlState.{Phase, Running, Calling, Asked, Ended, Dead, Context, Guard, Leave, Named, Saved, Control, first_cause}
 use Rattle.ak_model.specs.Control.RuntimeTurn.{leave_call, resume_guard}
 use Rattle.ak_model.specs.Tapes.ProgramTurns.{ProgramTurn}
-use Rattle.ak_relation.specs.Bytes.SavedFrames.{frame_bytes}
-use Rattle.ak_relation.specs.Bytes.SavedRegisters.{AreWords, AreRegs}
+use Rattle.ak_ssa.specs.SavedFrames.{frame_bytes}
+use Rattle.ak_ssa.specs.SavedRegisters.{AreWords, AreRegs}
 use Rattle.ak_relation.specs.State.MachineState.{State}
 use Rattle.ak_relation.specs.Bytes.Contexts.{IsAtStep, SameButRip}
 use Rattle.ak_model.specs.Laws.OwedAnswers.{Owing, Settled, Owed, Unknown, owing}

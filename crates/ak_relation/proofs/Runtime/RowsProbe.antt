@@ -14,8 +14,8 @@ use Rattle.ak_model.specs.Control.ControlState.{Phase, Running, Asked, Context, 
 use Rattle.ak_model.specs.Control.RuntimeTurn.{program_at_bottom, finish, effect}
 use Rattle.ak_model.specs.Tapes.ProgramTurns.{ProgramTurn}
 use Rattle.ak_model.specs.Laws.Orderly.{ContextFits, ReasonFits, StackFits, is_live}
-use Rattle.ak_relation.specs.Bytes.SavedFrames.{NoCause}
-use Rattle.ak_relation.specs.Bytes.SavedRegisters.{AreRegs}
+use Rattle.ak_ssa.specs.SavedFrames.{NoCause}
+use Rattle.ak_ssa.specs.SavedRegisters.{AreRegs}
 use Rattle.ak_relation.specs.State.MachineState.{State, OfCopy}
 use Rattle.ak_relation.specs.Bytes.Contexts.{Gives}
 use Rattle.ak_model.specs.Laws.OwedAnswers.{owing_running}

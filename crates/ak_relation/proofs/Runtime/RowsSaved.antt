@@ -16,8 +16,8 @@ use Rattle.ak_model.specs.Control.ControlState.{Phase, Context, Program, Enter, 
 use Rattle.ak_model.specs.Control.RuntimeTurn.{effect, handle, nested_cause}
 use Rattle.ak_model.specs.Tapes.ProgramTurns.{ProgramTurn}
 use Rattle.ak_model.specs.Laws.Orderly.{ContextFits, FaultFits, SavedFits}
-use Rattle.ak_relation.specs.Bytes.SavedFrames.{area_place, HasFrame}
-use Rattle.ak_relation.specs.Bytes.FramesFit.{FrameFits}
+use Rattle.ak_ssa.specs.SavedFrames.{area_place, HasFrame}
+use Rattle.ak_ssa.specs.FramesFit.{FrameFits}
 use Rattle.ak_relation.specs.State.MachineState.{State}
 use Rattle.ak_relation.specs.Bytes.Contexts.{Gives, reason_for, IsNoted, IsByPage}
 use Rattle.ak_model.specs.Laws.OwedAnswers.{owing}

@@ -12,7 +12,7 @@ use Rattle.ak_model.specs.Control.ControlState.{Control}
 use Rattle.ak_model.specs.Control.RuntimeTurn.{shown_fault}
 use Rattle.ak_model.specs.Tapes.ProgramTurns.{ProgramTurn}
 use Rattle.ak_model.proofs.Control.OrderlySteps.{ClustersFit}
-use Rattle.ak_relation.specs.Bytes.FramesFit.{HasRoom}
+use Rattle.ak_ssa.specs.FramesFit.{HasRoom}
 use Rattle.ak_relation.specs.State.MachineState.{State, copy, OfCopy}
 use Rattle.ak_relation.specs.Bytes.Pages.{IsTcs}
 use Rattle.ak_relation.specs.Program.Reaching.{StaysBy, IsStaying}

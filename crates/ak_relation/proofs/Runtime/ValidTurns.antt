@@ -11,7 +11,7 @@ use Rattle.ak_relation.specs.Premises.StepsTo.{Outcome}
 use Rattle.ak_relation.specs.Premises.Works.{exit_of, NamesCause}
 use Rattle.ak_relation.specs.Premises.Shows.{ShowsStep}
 use Rattle.ak_relation.specs.Relation.Does.{IsTurn}
-use Rattle.ak_relation.proofs.Flat.Room.{room}
+use Rattle.ak_ssa.proofs.Room.{room}
 use Rattle.ak_relation.proofs.Runtime.RuntimeTurns.{runtime_turns, by_place}
 
 -- a turn in the runtime's mode, for each valid layout

@@ -1,49 +1,13 @@
--- How far the places of cycles, blocks and stamps go.
-use Rattle.std.proofs.Common.{◌≡◌, ℕ, zero, suc, ◌+◌, ◌≤◌, List, [], ◌∷◌, length, map, refl, ap, ◌∙◌, arith}
-use Rattle.std.specs.Prelude.{Bool, true, false, not, filter, cond, replicate, Option, Some, None, ◌==◌, if◌then◌else◌}
+-- How far the places of cycles and stamps go.
+use Rattle.std.proofs.Common.{◌≡◌, ℕ, zero, suc, ◌≤◌, List, [], ◌∷◌, length, map, refl, ap, ◌∙◌, arith}
+use Rattle.std.specs.Prelude.{Bool, false, not, filter, cond, replicate, ◌==◌}
 use Rattle.ak_model.specs.Paging.Histories.{History, Change, Unchanged, Maps, Blocks, Cycles, WritesOut, Loads, Removes, MakesVa, Discards, Enters, Resumes, Exits, Interrupts, change_of}
-use Rattle.ak_model.specs.Paging.Frames.{blocked_at, blocked_after}
 use Rattle.ak_model.specs.Paging.Tracking.{Cycle, without}
-use Rattle.ak_relation.specs.State.TrackSteps.{TrackStep, Cycled, steps_after, steps_of, stamp_of, inside_by}
+use Rattle.ak_model.proofs.Paging.BlockPlaces.{Bounded, bounded_more, bounded_after}
+use Rattle.ak_track.specs.Steps.{TrackStep, Cycled, inside_by}
+use Rattle.ak_relation.specs.State.TrackSteps.{steps_after, steps_of, stamp_of}
 
--- ---- Bounds
-
--- a place, if there is one, is at most this
-abbrev pub Bounded : ℕ → Option ℕ → Type 0
-Bounded n None = Unit {0}
-Bounded n (Some x) = x ≤ n
-
-bounded_more : (n m : ℕ) (o : Option ℕ) → n ≤ m → Bounded n o → Bounded m o
-bounded_more n m None le h = tt
-bounded_more n m (Some x) le h = omega arith
-
-bounded_if : (b : Bool) (n : ℕ) (x y : Option ℕ) → Bounded n x → Bounded n y → Bounded n (if b then x else y)
-bounded_if true n x y h k = h
-bounded_if false n x y h k = k
-
-bounded_after : (c : Change) (f clock n : ℕ) (o : Option ℕ) → clock ≤ n → Bounded n o → Bounded n (blocked_after c f clock o)
-bounded_after (Blocks g) f clock n None le h = bounded_if (f == g) n (Some clock) None le tt
-bounded_after (Blocks g) f clock n (Some x) le h = bounded_if (f == g) n (Some x) (Some x) h h
-bounded_after (Loads g k p va i true) f clock n o le h = bounded_if (f == g) n (Some clock) o le h
-bounded_after (Loads g k p va i false) f clock n o le h = bounded_if (f == g) n None o tt h
-bounded_after (MakesVa g) f clock n o le h = bounded_if (f == g) n None o tt h
-bounded_after (WritesOut g va i k) f clock n o le h = bounded_if (f == g) n None o tt h
-bounded_after (Removes g) f clock n o le h = bounded_if (f == g) n None o tt h
-bounded_after Unchanged f clock n o le h = h
-bounded_after (Maps p g flags) f clock n o le h = h
-bounded_after Cycles f clock n o le h = h
-bounded_after (Discards k) f clock n o le h = h
-bounded_after (Enters lp v) f clock n o le h = h
-bounded_after (Resumes lp) f clock n o le h = h
-bounded_after (Exits lp exit) f clock n o le h = h
-bounded_after (Interrupts lp) f clock n o le h = h
-
--- a block is not to come
-pub block_bounded : (past : History) (f : ℕ) → Bounded (length past) (blocked_at past f)
-block_bounded [] f = tt
-block_bounded (pair ∷ past) f =
-    bounded_after (change_of pair) f (length past + 1) (suc (length past)) (blocked_at past f) (omega arith)
-    (bounded_more (length past) (suc (length past)) _ (omega arith) (block_bounded past f))
+-- ---- Stamps
 
 steps_grow : (c : Change) (steps : List TrackStep) → length steps ≤ length (steps_after c steps)
 steps_grow (Enters lp v) steps = omega arith
@@ -60,7 +24,7 @@ steps_grow (Removes f) steps = omega arith
 steps_grow (MakesVa f) steps = omega arith
 steps_grow (Discards k) steps = omega arith
 
--- nor is a stamp
+-- a stamp is not to come
 pub stamp_bounded : (past : History) (f : ℕ) → Bounded (length (steps_of past)) (stamp_of past f)
 stamp_bounded [] f = tt
 stamp_bounded (pair ∷ past) f =
@@ -84,11 +48,6 @@ built_more n m (cycle ∷ older) le h = let low = h.0 in (omega arith, h.1, buil
 pub built_without : (lp n : ℕ) (all : List Cycle) → AreBuilt n all → AreBuilt n (map (without lp) all)
 built_without lp n [] h = tt
 built_without lp n (cycle ∷ older) h = (h.0, ap (filter (λ q. not (q == lp))) h.1, built_without lp n older h.2)
-
--- nothing passes
-pub filter_none : (test : ℕ → Bool) (xs : List ℕ) → ((x : ℕ) → test x ≡ false) → filter test xs ≡ []
-filter_none test [] h = refl
-filter_none test (x ∷ xs) h = let e = h x in rw e (filter_none test xs h)
 
 -- tests that agree
 pub filter_same : (f g : ℕ → Bool) (xs : List ℕ) → ((x : ℕ) → f x ≡ g x) → filter f xs ≡ filter g xs

@@ -6,7 +6,8 @@ use Rattle.ak_model.specs.Paging.Histories.{History, Change, Unchanged, Maps, Bl
 use Rattle.ak_model.specs.Paging.Frames.{blocked_after, blocks_first}
 use Rattle.ak_model.specs.Paging.Inside.{since, since_after, inside}
 use Rattle.ak_model.specs.Paging.Tracking.{Cycle, without, is_over, over_after, last_is_over}
-use Rattle.ak_relation.specs.State.TrackSteps.{TrackStep, Cycled, steps_after, steps_of, inside_by}
+use Rattle.ak_track.specs.Steps.{TrackStep, Cycled, inside_by}
+use Rattle.ak_relation.specs.State.TrackSteps.{steps_after, steps_of}
 use Rattle.ak_model.proofs.Paging.DescendingCycles.{AtMost}
 use Rattle.ak_relation.proofs.Tracking.TrackBounds.{AreBuilt, built_without, nobody}
 

@@ -11,7 +11,7 @@ use Rattle.ak_model.specs.Flat.Instructions.{reg_of, with_reg, rax, rcx, rsi, rd
 use Rattle.ak_model.specs.Flat.FlatRuns.{Flat, is_forbidden, zeroed}
 use Rattle.ak_model.specs.Control.RuntimeTurn.{asked_pages}
 use Rattle.ak_model.specs.Control.ControlState.{Phase, Context, Program, Enter, Probe, Finish, Guard, Leave, Reason, Interrupted, Cleared, Raised, Denied, Missed, Broke, Faulted}
-use Rattle.ak_relation.specs.Bytes.SavedFrames.{SavedCause, NoCause, ByVector, ByPage}
+use Rattle.ak_ssa.specs.SavedFrames.{SavedCause, NoCause, ByVector, ByPage}
 
 -- ---- Registers
 

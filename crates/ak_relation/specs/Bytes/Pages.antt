@@ -5,10 +5,11 @@ use Rattle.ak_core.specs.Layout.{Layout}
 use Rattle.ak_model.specs.Paging.Pages.{pages, tcs_page, ssa_page, state_page}
 use Rattle.ak_model.specs.Flat.FlatRuns.{Flat, page_bytes}
 use Rattle.ak_model.specs.Control.ControlState.{Phase, New, Running, Calling, Asked, Ended, Trapped, Dead, Saved}
-use Rattle.ak_relation.specs.Bytes.SavedFrames.{number_at, SavedFrame, area_place, state_place, HasFrame}
-use Rattle.ak_relation.specs.Bytes.SavedRegisters.{AreRegs}
-use Rattle.ak_relation.specs.Bytes.FramesFit.{FrameFits}
 use Rattle.ak_relation.specs.Bytes.Contexts.{Gives, IsNoted}
+use Rattle.ak_model.specs.Flat.Instructions.{number_at}
+use Rattle.ak_ssa.specs.SavedFrames.{SavedFrame, area_place, state_place, HasFrame}
+use Rattle.ak_ssa.specs.SavedRegisters.{AreRegs}
+use Rattle.ak_ssa.specs.FramesFit.{FrameFits}
 use Rattle.ak_relation.specs.State.MachineState.{OfCopy}
 
 -- the bytes of each page's newest copy, where it has one

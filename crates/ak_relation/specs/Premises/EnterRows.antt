@@ -12,8 +12,8 @@ use Rattle.ak_model.specs.Paging.Holdings.{is_page_in}
 use Rattle.ak_model.specs.Paging.Inside.{processors}
 use Rattle.ak_model.specs.Paging.Walk.{is_preset, flags_allow}
 use Rattle.ak_epcm.specs.Entries.{entry_at}
-use Rattle.ak_relation.specs.Bytes.SavedFrames.{number_at}
 use Rattle.ak_relation.specs.State.MachineState.{State}
+use Rattle.ak_model.specs.Flat.Instructions.{number_at}
 use Rattle.ak_relation.specs.State.MachineView.{held_in}
 
 -- ---- Walks

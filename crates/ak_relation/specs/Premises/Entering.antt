@@ -2,7 +2,7 @@
 use Rattle.std.specs.Prelude.{◌≡◌, ℕ, true, false, [], ◌∷◌, length, ◌==◌}
 use Rattle.ak_core.specs.Layout.{Layout}
 use Rattle.ak_model.specs.Paging.Pages.{tcs_page, ssa_page}
-use Rattle.ak_relation.specs.State.TrackSteps.{EntersBy}
+use Rattle.ak_track.specs.Steps.{EntersBy}
 use Rattle.ak_relation.specs.State.MachineState.{State}
 use Rattle.ak_relation.specs.Bytes.Contexts.{entry_regs}
 use Rattle.ak_relation.specs.Bytes.Pages.{IsTcs}

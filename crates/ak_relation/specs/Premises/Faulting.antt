@@ -10,7 +10,7 @@ use Rattle.ak_model.specs.Misses.KeptTranslations.{is_among, is_kept}
 use Rattle.ak_relation.specs.State.MachineState.{Fill, State}
 use Rattle.ak_relation.specs.Program.Reaching.{is_filled}
 use Rattle.ak_relation.specs.Premises.EnterRows.{walk_in}
-use Rattle.ak_relation.specs.Bytes.SavedFrames.{SavedCause}
+use Rattle.ak_ssa.specs.SavedFrames.{SavedCause}
 use Rattle.ak_relation.specs.Bytes.Pages.{IsTcs}
 use Rattle.ak_relation.specs.Premises.Saving.{Saves}
 use Rattle.ak_relation.specs.Program.Seeing.{Sees}

@@ -2,7 +2,7 @@
 use Rattle.std.specs.Prelude.{◌≡◌, ℕ, ◌*◌, ◌<◌, true, false, length, ◌==◌}
 use Rattle.ak_core.specs.declared.page.PageType.TheVariants.{Va}
 use Rattle.ak_epcm.specs.Entries.{entry_at}
-use Rattle.ak_relation.specs.Bytes.SavedFrames.{number_at}
+use Rattle.ak_model.specs.Flat.Instructions.{number_at}
 use Rattle.ak_relation.specs.State.MachineState.{State}
 
 -- frame f is a VA page with empty slots, and all else stays

@@ -2,9 +2,9 @@
 use Rattle.std.specs.Prelude.{◌≡◌, ℕ, true, false, [], ◌∷◌, length, ◌==◌}
 use Rattle.ak_core.specs.Layout.{Layout}
 use Rattle.ak_model.specs.Paging.Pages.{tcs_page, ssa_page}
-use Rattle.ak_relation.specs.State.TrackSteps.{EntersBy}
 use Rattle.ak_relation.specs.State.MachineState.{State}
-use Rattle.ak_relation.specs.Bytes.SavedRegisters.{area_regs}
+use Rattle.ak_track.specs.Steps.{EntersBy}
+use Rattle.ak_ssa.specs.SavedRegisters.{area_regs}
 use Rattle.ak_relation.specs.Bytes.Pages.{IsTcs}
 
 -- the processor is inside, with the registers of the newest area, which it holds for the next exit, with so many areas below; its

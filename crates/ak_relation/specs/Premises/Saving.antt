@@ -6,10 +6,10 @@ use Rattle.ak_model.specs.Paging.Pages.{cluster_at}
 use Rattle.ak_model.specs.Clusters.Queue.{is_in}
 use Rattle.ak_model.specs.Flat.FlatRuns.{is_forbidden}
 use Rattle.ak_model.specs.Laws.Orderly.{after_miss_if}
-use Rattle.ak_relation.specs.Bytes.SavedFrames.{SavedCause, NoCause, ByVector, ByPage, area_place, HasFrame}
-use Rattle.ak_relation.specs.Bytes.SavedRegisters.{AreRegs}
-use Rattle.ak_relation.specs.Bytes.FramesFit.{CauseFits}
-use Rattle.ak_relation.specs.State.TrackSteps.{LeavesBy}
+use Rattle.ak_ssa.specs.SavedFrames.{SavedCause, NoCause, ByVector, ByPage, area_place, HasFrame}
+use Rattle.ak_ssa.specs.SavedRegisters.{AreRegs}
+use Rattle.ak_ssa.specs.FramesFit.{CauseFits}
+use Rattle.ak_track.specs.Steps.{LeavesBy}
 use Rattle.ak_relation.specs.State.MachineState.{State}
 use Rattle.ak_relation.specs.Bytes.Pages.{IsTcs}
 

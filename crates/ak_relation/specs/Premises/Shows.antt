@@ -8,9 +8,9 @@ use Rattle.ak_core.specs.declared.registers.Regs.{Regs}
 use Rattle.ak_model.specs.Paging.Histories.{History}
 use Rattle.ak_model.specs.Flat.FlatRuns.{Flat}
 use Rattle.ak_model.specs.Control.ControlState.{Context, Control}
-use Rattle.ak_relation.specs.Bytes.SavedFrames.{ByPage}
 use Rattle.ak_relation.specs.State.MachineState.{State}
 use Rattle.ak_relation.specs.Bytes.Pages.{IsTcs}
+use Rattle.ak_ssa.specs.SavedFrames.{ByPage}
 use Rattle.ak_relation.specs.State.Tables.{TablesStand}
 use Rattle.ak_relation.specs.Premises.Saving.{Saves}
 use Rattle.ak_relation.specs.Premises.StepsTo.{Outcome, memory_of, MayStep, StepsTo}

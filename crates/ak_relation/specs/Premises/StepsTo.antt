@@ -9,16 +9,16 @@ use Rattle.ak_core.specs.declared.registers.Mode.{Mode}
 use Rattle.ak_core.specs.declared.registers.Regs.{Regs}
 use Rattle.ak_model.specs.Paging.Pages.{ssa_page, state_page}
 use Rattle.ak_model.specs.Clusters.Queue.{is_in}
-use Rattle.ak_model.specs.Flat.Instructions.{reg_of, rcx}
+use Rattle.ak_model.specs.Flat.Instructions.{reg_of, rcx, number_at}
 use Rattle.ak_model.specs.Flat.FlatRuns.{Flat}
 use Rattle.ak_model.specs.Control.ControlState.{Phase, Calling, Asked, Context, Program, Enter, Reason, Raised, Denied, Missed, Broke, Faulted, Saved, Control}
 use Rattle.ak_model.specs.Control.RuntimeTurn.{accesses}
 use Rattle.ak_model.specs.Laws.StepRows.{HasRow}
 use Rattle.ak_model.specs.Laws.Orderly.{IsDistinct}
-use Rattle.ak_relation.specs.Bytes.SavedFrames.{number_at, SavedFrame, area_place, state_place, HasFrame}
-use Rattle.ak_relation.specs.Bytes.SavedRegisters.{AreRegs}
-use Rattle.ak_relation.specs.Bytes.FramesFit.{FrameFits}
 use Rattle.ak_relation.specs.Bytes.Contexts.{IsAtStep, Gives}
+use Rattle.ak_ssa.specs.SavedFrames.{SavedFrame, area_place, state_place, HasFrame}
+use Rattle.ak_ssa.specs.SavedRegisters.{AreRegs}
+use Rattle.ak_ssa.specs.FramesFit.{FrameFits}
 use Rattle.ak_relation.specs.State.MachineState.{OfCopy}
 use Rattle.ak_relation.specs.Bytes.Pages.{Copies, phase_number, SaysMore, AreasStand, IsState}
 use Rattle.ak_relation.specs.Premises.Rows.{StateChange, StateStays, StateSets, AreaChange, AreasStay, AreasGuard, AreaGets, StepEnd, GoesWith, GoesProbing, LeavesWith, DiesOf, Row, Reads, kept_bytes, guard_frame, row_of}

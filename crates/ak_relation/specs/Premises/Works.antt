@@ -11,7 +11,7 @@ use Rattle.ak_model.specs.Paging.Walk.{access_walkable}
 use Rattle.ak_core.specs.declared.event.StopCause.{StopCause}
 use Rattle.ak_core.specs.declared.event.StopCause.TheVariants.{Unmapped}
 use Rattle.ak_model.specs.Control.ControlState.{Context, Program, Cause, ByBreak, Named, Control, first_cause}
-use Rattle.ak_relation.specs.State.TrackSteps.{LeavesBy}
+use Rattle.ak_track.specs.Steps.{LeavesBy}
 use Rattle.ak_relation.specs.State.MachineState.{State}
 use Rattle.ak_model.specs.Control.RuntimeTurn.{shown_fault, stuck_cause}
 use Rattle.ak_core.specs.declared.moves.Exit.{Exit}

@@ -1,13 +1,9 @@
 -- What a write-out does to a machine. (SDM volume 3D, EWB.)
-use Rattle.std.specs.Prelude.{◌≡◌, ℕ, ◌+◌, ◌*◌, ◌<◌, false, List, length, Some, ◌==◌, if◌then◌else◌}
-use Rattle.ak_core.specs.declared.page.Entry.{Entry}
+use Rattle.std.specs.Prelude.{◌≡◌, ℕ, ◌+◌, ◌*◌, ◌<◌, false, length, Some, ◌==◌, if◌then◌else◌}
 use Rattle.ak_epcm.specs.Entries.{entry_at}
-use Rattle.ak_relation.specs.Bytes.SavedFrames.{number_at}
-use Rattle.ak_relation.specs.State.MachineState.{SealedPage, State}
-
--- the sealed page of a frame: what its entry said, and its bytes
-abbrev pub sealed_page_of : Entry → List ℕ → SealedPage
-sealed_page_of entry bytes = record { kind = entry.kind; page = entry.page.0; r = entry.r; w = entry.w; x = entry.x; bytes = bytes }
+use Rattle.ak_model.specs.Flat.Instructions.{number_at}
+use Rattle.ak_relation.specs.State.MachineState.{State}
+use Rattle.ak_sealed.specs.SealedPages.{sealed_page_of}
 
 -- frame f is free, slot i of frame va has the version of the next handle, and that has the frame's sealed page. The bytes of f may be any
 pub record WritesOutTo (old new : State) (f va i : ℕ) : Type 0 where

@@ -6,7 +6,7 @@ use Rattle.ak_core.specs.Mem.{Access, access_to}
 use Rattle.ak_core.specs.declared.page.Kind.TheVariants.{Write}
 use Rattle.ak_model.specs.Misses.KeptTranslations.{is_among}
 use Rattle.ak_model.specs.Flat.FlatRuns.{Flat, End, page_bytes}
-use Rattle.ak_relation.specs.Bytes.SavedRegisters.{AreRegs}
+use Rattle.ak_ssa.specs.SavedRegisters.{AreRegs}
 
 -- numbers of 8 bits
 abbrev pub AreBytes : List ℕ → Type 0

@@ -4,7 +4,7 @@ use Rattle.ak_core.specs.Layout.{Layout, IsValid}
 use Rattle.ak_model.specs.Paging.Pages.{pages}
 use Rattle.ak_model.specs.Control.ControlState.{Context, Enter, Saved, Control}
 use Rattle.ak_model.specs.Control.OneTurn.{Turn, Goes, Leaves}
-use Rattle.ak_relation.specs.Bytes.SavedRegisters.{AreWords}
+use Rattle.ak_ssa.specs.SavedRegisters.{AreWords}
 use Rattle.ak_relation.specs.Program.FlatFits.{AreBytes}
 
 -- the value of an entry step has 64 bits

@@ -2,19 +2,10 @@
 use Rattle.std.specs.Prelude.{ℕ, Bool, List, Option, Some, None, option_map}
 use Rattle.ak_core.specs.Mem.{Access}
 use Rattle.ak_core.specs.declared.page.Entry.{Entry}
-use Rattle.ak_core.specs.declared.page.PageType.{PageType}
 use Rattle.ak_core.specs.declared.registers.Regs.{Regs}
 use Rattle.ak_model.specs.Paging.Holdings.{Place, InFrame, InHandle, Gone, Mapping}
-use Rattle.ak_relation.specs.State.TrackSteps.{TrackStep}
-
--- a sealed page: what its frame's entry said, and its bytes
-pub record SealedPage : Type 0 where
-  pub kind : PageType
-  pub page : ℕ
-  pub r : Bool
-  pub w : Bool
-  pub x : Bool
-  pub bytes : List ℕ
+use Rattle.ak_sealed.specs.SealedPages.{SealedPage}
+use Rattle.ak_track.specs.Steps.{TrackStep}
 
 -- a translation that a walk found, and that was cached
 pub record Fill : Type 0 where

@@ -1,5 +1,5 @@
 -- The view of a machine's own tables.
-use Rattle.std.specs.Prelude.{ℕ, ◌-◌, ◌*◌, Option, Some, None, is_some, ◌==◌, if◌then◌else◌}
+use Rattle.std.specs.Prelude.{ℕ, ◌*◌, Option, Some, None, is_some, if◌then◌else◌}
 use Rattle.std.specs.List.{list_any}
 use Rattle.ak_core.specs.Layout.{Layout}
 use Rattle.ak_core.specs.declared.page.Entry.{Entry}
@@ -9,9 +9,10 @@ use Rattle.ak_model.specs.Paging.Holdings.{Held, FreeFrame, SecsFrame, VaFrame, 
 use Rattle.ak_model.specs.Paging.Inside.{processors}
 use Rattle.ak_epcm.specs.Entries.{entry_at}
 use Rattle.ak_model.specs.Paging.Views.{View}
-use Rattle.ak_relation.specs.Bytes.SavedFrames.{number_at}
-use Rattle.ak_relation.specs.State.TrackSteps.{tracked_by, incomplete_by}
-use Rattle.ak_relation.specs.State.MachineState.{SealedPage, State}
+use Rattle.ak_model.specs.Flat.Instructions.{number_at}
+use Rattle.ak_track.specs.Steps.{tracked_by, incomplete_by}
+use Rattle.ak_sealed.specs.SealedPages.{SealedPage, handle_in}
+use Rattle.ak_relation.specs.State.MachineState.{State}
 
 -- what a frame of this type holds
 abbrev pub held_by : PageType → ℕ → Held
@@ -24,10 +25,6 @@ held_by Reg p = PageFrame p
 abbrev pub held_in : Entry → Held
 held_in entry = if entry.valid then held_by entry.kind entry.page.0 else FreeFrame
 
--- the handle of a version
-abbrev pub handle_in : ℕ → Option ℕ
-handle_in version = if version == 0 then None else Some (version - 1)
-
 -- the page of a sealed page
 abbrev pub page_on : Option SealedPage → ℕ
 page_on None = 0
@@ -39,11 +36,11 @@ view_in layout state = record {
   frames = layout.frames;
   held = λ f. held_in (entry_at state.entries f);
   blocked = λ f. (entry_at state.entries f).blocked;
-  tracked = λ f. tracked_by layout state.track (Some (state.stamps f));
+  tracked = λ f. tracked_by layout.lps state.track (Some (state.stamps f));
   slot = λ va i. handle_in (number_at (state.frames va) (8 * i) 8);
   live = λ k. is_some (state.sealed_pages k);
   page_of = λ k. page_on (state.sealed_pages k);
   given = state.next;
-  incomplete = incomplete_by layout state.track;
+  incomplete = incomplete_by layout.lps state.track;
   active = list_any (λ lp. (state.processors lp).inside) (processors layout);
 }

@@ -5,7 +5,7 @@ use Rattle.ak_core.specs.declared.moves.Answer.{Answer}
 use Rattle.ak_core.specs.declared.page.Entry.{Entry}
 use Rattle.ak_model.specs.Paging.Holdings.{Mapping}
 use Rattle.ak_epcm.specs.Entries.{entry_at}
-use Rattle.ak_relation.specs.State.TrackSteps.{Cycled}
+use Rattle.ak_track.specs.Steps.{Cycled}
 use Rattle.ak_relation.specs.State.MachineState.{State}
 
 -- one more tracking cycle

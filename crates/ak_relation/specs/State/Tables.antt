@@ -15,18 +15,15 @@ use Rattle.ak_model.specs.Paging.Inside.{since}
 use Rattle.ak_model.specs.Laws.OneLiveCopy.{OneCopy}
 use Rattle.ak_epcm.specs.Entries.{entry_at}
 use Rattle.ak_walk.specs.Agrees.{EntryAgrees, type_of_page}
-use Rattle.ak_relation.specs.Bytes.SavedFrames.{number_at}
-use Rattle.ak_relation.specs.State.TrackSteps.{TrackStep, Cycled, steps_of, stamp_of}
-use Rattle.ak_relation.specs.State.MachineState.{SealedPage, Processor, State}
+use Rattle.ak_relation.specs.State.TrackSteps.{steps_of, stamp_of}
+use Rattle.ak_model.specs.Flat.Instructions.{number_at}
+use Rattle.ak_track.specs.Steps.{TrackStep, Cycled}
+use Rattle.ak_sealed.specs.SealedPages.{SealedPage, version}
+use Rattle.ak_relation.specs.State.MachineState.{Processor, State}
 
 -- each entry of the EPCM says what its frame holds, and whether that is blocked
 pub record EntriesStand (layout : Layout) (entries : List Entry) (held : ℕ → Held) (blocked_at : ℕ → Option ℕ) : Type 0 where
   pub entry : (f : ℕ) → EntryAgrees layout (entry_at entries f) (held f) (blocked_at f)
-
--- the version of the handle in a slot: its number and one, or 0 for none
-abbrev pub version : Option ℕ → ℕ
-version None = 0
-version (Some k) = k + 1
 
 -- each slot of a VA frame holds the version of its handle
 pub record SlotsStand (frames : ℕ → List ℕ) (held : ℕ → Held) (slot : ℕ → ℕ → Option ℕ) : Type 0 where

@@ -10,14 +10,13 @@ ghost use Rattle.ak_model.specs.Paging.Histories.{History};
 ghost use Rattle.ak_model.specs.Paging.Pages.{all_pages};
 ghost use Rattle.ak_model.specs.Paging.Walk.{tcs_walkable, walkable};
 ghost use Rattle.ak_relation.specs.Bytes.Pages.{IsTcs};
-ghost use Rattle.ak_relation.specs.Bytes.SavedFrames.{HasFrame, NoCause, SavedFrame, area_place};
-ghost use Rattle.ak_relation.specs.Bytes.SavedRegisters.{AreRegs, area_regs};
 ghost use Rattle.ak_relation.specs.Premises.EnterRows.{enter_row, resume_row, saved_in, tcs_in, walk_in};
 ghost use Rattle.ak_relation.specs.Premises.Entering.{EntersAt};
 ghost use Rattle.ak_relation.specs.Premises.Resuming.{ResumesAt};
 ghost use Rattle.ak_relation.specs.Premises.Saving.{Saves};
 ghost use Rattle.ak_relation.specs.Relation.Does.{IsMove};
 ghost use Rattle.ak_relation.specs.State.MachineState.{State};
+ghost use Rattle.ak_ssa.specs.SavedFrames.{NoCause};
 ghost use Rattle.ak_relation.specs.State.Tables.{TablesStand};
 ghost use Rattle.std.specs.Prelude.{Bool, List, None, false, true, ℕ, ◌-◌, ◌<◌, ◌^◌, ◌≡◌};
 ghost use Rattle.ak_core.specs.Layout;
@@ -47,12 +46,6 @@ pub fn resume_moves()
         → IsMove layout old new (Eresume lp) Ok None }
     ensures refused { (layout : Layout.Layout) (old : State) (lp : Lp) (a : Answer) → entering_walks layout.build ≡ true
         → is_done a ≡ false → resume_row layout old lp.0 ≡ a → IsMove layout old old (Eresume lp) a None }
-{}
-
-/// The registers that are read back from an area's bytes are those of the frame that was saved there, where they are of 64 bits.
-pub fn saved_registers_return()
-    ensures { (layout : Layout.Layout) (bytes : List ℕ) (frame : SavedFrame) → AreRegs frame.regs → HasFrame layout area_place bytes frame
-        → area_regs bytes ≡ frame.regs }
 {}
 
 /// An interrupt of a processor that is inside is a move, where the processor is saved with nothing noted, after as many contexts as

@@ -1,7 +1,8 @@
 // A law on tracking by steps.
 ghost use Rattle.ak_model.specs.Paging.Histories.{History};
 ghost use Rattle.ak_model.specs.Paging.Tracking.{incomplete, tracked};
-ghost use Rattle.ak_relation.specs.State.TrackSteps.{Cycled, incomplete_by, stamp_of, steps_of, tracked_by};
+ghost use Rattle.ak_track.specs.Steps.{Cycled, incomplete_by, tracked_by};
+ghost use Rattle.ak_relation.specs.State.TrackSteps.{stamp_of, steps_of};
 ghost use Rattle.std.specs.Prelude.{Some, replicate, ℕ, ◌++◌, ◌+◌, ◌≡◌};
 ghost use Rattle.ak_core.specs.Layout;
 
@@ -9,7 +10,7 @@ ghost use Rattle.ak_core.specs.Layout;
 /// the last cycle is over just where it is.
 pub fn steps_track()
     ensures tracks { (layout : Layout.Layout) (built : ℕ) (past : History) (f stamp : ℕ) → stamp_of past f ≡ Some stamp
-        → tracked layout past f ≡ tracked_by layout (steps_of past ++ replicate built Cycled) (Some (built + stamp)) }
+        → tracked layout past f ≡ tracked_by layout.lps (steps_of past ++ replicate built Cycled) (Some (built + stamp)) }
     ensures last { (layout : Layout.Layout) (built : ℕ) (past : History)
-        → incomplete layout past ≡ incomplete_by layout (steps_of past ++ replicate built Cycled) }
+        → incomplete layout past ≡ incomplete_by layout.lps (steps_of past ++ replicate built Cycled) }
 {}

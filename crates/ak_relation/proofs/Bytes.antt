@@ -1,2 +1,0 @@
--- Lemmas on the bytes of pages.
-pub mod FramesReturn

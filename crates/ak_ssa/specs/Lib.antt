@@ -1,0 +1,4 @@
+pub mod SavedFrames
+pub mod SavedRegisters
+pub mod ReadFrames
+pub mod FramesFit
