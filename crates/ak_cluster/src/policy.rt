@@ -1,5 +1,5 @@
 // The queue as a list of clusters.
-ghost use Rattle.std.specs.Prelude.{◌≡◌, ◌<◌, ◌≤◌, ◌+◌, ◌*◌, ◌∷◌, ◌++◌, [], List, ℕ, false, length, drop};
+ghost use Rattle.std.specs.Prelude.{◌≡◌, ◌<◌, ◌≤◌, ◌*◌, ◌∷◌, ◌++◌, [], List, ℕ, false, length, drop};
 ghost use Rattle.ak_core.specs.Layout.{size_of};
 ghost use Rattle.ak_model.specs.Clusters.Queue.{drops, is_in, total_size};
 ghost use Rattle.ak_cluster.specs.QueueBytes.{HasQueue, HasSomeQueue, IsQueue, KeepsOthers, with_queue};
@@ -91,7 +91,7 @@ fn size_of(layout: &Layout, c: u32) -> u32
     ensures size { result ≡ size_of layout.now.cluster_of c }
     ensures small { result ≤ 512 }
 {
-    // One cluster for each page.
+    // There is one cluster for each page.
     let pages = layout.perms().len();
     layout.cluster_of()[..pages]
         .iter()

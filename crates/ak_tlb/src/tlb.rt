@@ -1,7 +1,6 @@
 // A list of translations, seen as what was cached since the flush.
-ghost use Rattle.std.specs.Prelude.{◌≡◌, ◌≤◌, ◌<◌, ◌∷◌, [], List, ℕ, true, Some, IsSome, IfSome, option_map, length, slice_set};
+ghost use Rattle.std.specs.Prelude.{◌≡◌, ◌≤◌, ◌<◌, ◌∷◌, [], List, true, Some, IsSome, IfSome, length, slice_set};
 ghost use Rattle.ak_core.specs.Mem.{access_to};
-ghost use Rattle.ak_core.specs.declared.page.Frame.{Frame as TheFrame};
 ghost use Rattle.ak_model.specs.Misses.KeptTranslations.{is_kept};
 ghost use Rattle.ak_tlb.specs.Fills.{Fill, HoldsFills, accesses_of, fill_of, frame_for};
 ghost use Rattle.ak_tlb.specs.Translations.{filled, frame_in, found, room_made, translation_of};

@@ -1,7 +1,8 @@
 // One cached translation, and where one stands in a list.
 ghost use Rattle.std.specs.Prelude.{◌≡◌};
 ghost use Rattle.std.specs.Option.{option_copied};
-ghost use Rattle.ak_tlb.specs.Translations.{found, is_for, place_in};
+ghost use Rattle.ak_tlb.specs.Translations.{found, is_for, place_in, translation_of};
+ghost use Rattle.ak_core.specs.declared.page.Kind.TheVariants.{Read};
 
 use ak_core::{Fault, Frame};
 
@@ -16,7 +17,9 @@ pub struct Translation {
 
 impl Default for Translation {
     /// That of a read of page 0 in frame 0.
-    fn default() -> Translation {
+    fn default() -> Translation
+        ensures { result ≡ translation_of 0 Read 0 }
+    {
         Translation {
             access: Fault::default(),
             frame: Frame(0),
