@@ -7,7 +7,8 @@ use Rattle.ak_core.specs.Mem.{Access}
 use Rattle.ak_model.specs.Flat.FlatRuns.{Flat, End, line, ending, is_forbidden}
 use Rattle.ak_model.specs.Misses.Reached.{permitted_accesses}
 use Rattle.ak_model.specs.Misses.KeptTranslations.{is_among, is_kept}
-use Rattle.ak_relation.specs.State.MachineState.{Fill, State}
+use Rattle.ak_relation.specs.State.MachineState.{State}
+use Rattle.ak_tlb.specs.Fills.{Fill, accesses_of}
 use Rattle.ak_relation.specs.Program.Reaching.{is_filled}
 use Rattle.ak_relation.specs.Premises.EnterRows.{walk_in}
 use Rattle.ak_ssa.specs.SavedFrames.{SavedCause}
@@ -25,10 +26,6 @@ pub record Traps (layout : Layout) (state : State) (fills : List Fill) (flat : F
   pub walked : List Access
   pub found : AreWalked layout state walked
   pub covers : (t : Access) → is_among (permitted_accesses layout (line layout flat).accesses) t ≡ true → (is_filled fills t || is_among walked t) ≡ true
-
--- the accesses of cached translations
-abbrev pub accesses_of : List Fill → List Access
-accesses_of fills = map (λ fill. fill.access) fills
 
 -- this access of the instruction is permitted, and no walk finds it; those before it are permitted, and cached or walked; and what
 -- was cached with these does not surely keep it

@@ -1,16 +1,11 @@
 -- What the relation sees of a machine: its tables, sealed pages, bytes and processors, as plain values.
 use Rattle.std.specs.Prelude.{ℕ, Bool, List, Option, Some, None, option_map}
-use Rattle.ak_core.specs.Mem.{Access}
 use Rattle.ak_core.specs.declared.page.Entry.{Entry}
 use Rattle.ak_core.specs.declared.registers.Regs.{Regs}
 use Rattle.ak_model.specs.Paging.Holdings.{Place, InFrame, InHandle, Gone, Mapping}
+use Rattle.ak_tlb.specs.Fills.{Fill}
 use Rattle.ak_sealed.specs.SealedPages.{SealedPage}
 use Rattle.ak_track.specs.Steps.{TrackStep}
-
--- a translation that a walk found, and that was cached
-pub record Fill : Type 0 where
-  pub access : Access
-  pub frame : ℕ
 
 -- a logical processor
 pub record Processor : Type 0 where
