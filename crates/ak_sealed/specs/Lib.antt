@@ -1,1 +1,2 @@
 pub mod SealedPages
+pub mod Shown
