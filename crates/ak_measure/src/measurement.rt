@@ -56,6 +56,16 @@ impl Measure {
         }
     }
 
+    /// The digest of all blocks that were absorbed so far.
+    pub fn digest(&self) -> [u8; 32]
+        ensures { (bytes : List ℕ) → HasAbsorbed self.now bytes → result ≡ sha256 bytes }
+    {
+        match self.hasher.clone() {
+            Ok(hasher) => hasher.finalize(),
+            Err(_) => unreachable!(),
+        }
+    }
+
     /// The digest of all blocks that were absorbed.
     pub fn finish(self) -> [u8; 32]
         ensures { (bytes : List ℕ) → HasAbsorbed self bytes → result ≡ sha256 bytes }

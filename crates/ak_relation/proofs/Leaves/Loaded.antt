@@ -21,7 +21,8 @@ use Rattle.ak_model.specs.Flat.Instructions.{number_at}
 use Rattle.ak_track.specs.Steps.{Cycled}
 use Rattle.ak_sealed.specs.SealedPages.{SealedPage, version}
 use Rattle.ak_relation.specs.State.Tables.{IsSealedPageOf, SealedPageAgrees, TablesStand}
-use Rattle.ak_relation.specs.Premises.Loading.{entry_of, LoadsFrom}
+use Rattle.ak_sealed.specs.SealedPages.{entry_of}
+use Rattle.ak_relation.specs.Premises.Loading.{LoadsFrom}
 
 -- what the row of a load tells
 pub record IsFair (layout : Layout) (past : History) (f k p va i : ℕ) : Type 0 where

@@ -17,7 +17,8 @@ use Rattle.ak_track.specs.Steps.{EntersBy}
 use Rattle.ak_model.specs.Control.LeafRows.{leaf_row}
 use Rattle.ak_relation.specs.Premises.EnterRows.{enter_row, saved_in}
 use Rattle.ak_relation.specs.Premises.Entering.{EntersAt}
-use Rattle.ak_relation.specs.Premises.Loading.{entry_of, LoadsFrom}
+use Rattle.ak_sealed.specs.SealedPages.{entry_of}
+use Rattle.ak_relation.specs.Premises.Loading.{LoadsFrom}
 use Rattle.ak_relation.specs.Relation.Does.{IsMove}
 use Rattle.ak_relation.specs.Relation.MoveByMove.{AreMoves}
 use Rattle.ak_relation.specs.Relation.Example.{one_page, no_operations, fetched_past, shown_past, begun_past}

@@ -14,7 +14,8 @@ use Rattle.ak_relation.specs.State.MachineView.{view_in}
 use Rattle.ak_relation.specs.State.TableChanges.{with_mapping}
 use Rattle.ak_model.specs.Control.LeafRows.{leaf_row}
 use Rattle.ak_relation.specs.Premises.EnterRows.{resume_row, saved_in}
-use Rattle.ak_relation.specs.Premises.Loading.{entry_of, LoadsFrom}
+use Rattle.ak_sealed.specs.SealedPages.{entry_of}
+use Rattle.ak_relation.specs.Premises.Loading.{LoadsFrom}
 use Rattle.ak_relation.specs.Premises.Resuming.{ResumesAt}
 use Rattle.ak_relation.specs.Relation.Does.{IsMove}
 use Rattle.ak_relation.specs.Relation.MoveByMove.{AreMoves}

@@ -95,6 +95,9 @@ written_entry (suc (suc (suc (suc (suc (suc (suc zero))))))) = refl
 written_entry (suc (suc (suc (suc (suc (suc (suc (suc g)))))))) =
     let other : (suc (suc (suc (suc (suc (suc (suc (suc g))))))) == 3) ≡ false = grind (arith, nat_tests) in rw other refl
 
+written_others : (g : ℕ) → (g == 3) ≡ false → entry_at written_entries g ≡ entry_at blocked_entries g
+written_others g other = let at_g = written_entry g in rw other at at_g
+
 pub written_whole : (f : ℕ) → length (written.frames f) ≡ 4096
 written_whole f = by (f == 1)
   where
@@ -104,7 +107,7 @@ written_whole f = by (f == 1)
 
 writes : WritesOutTo cycled written 3 1 1
 writes = record {
-  entry = written_entry;
+  entry = record { freed = refl; others = written_others };
   others = λ g no_area no_slots. rw no_slots refl;
   slot = second_slot;
   slots = λ j other lt. other_than_second j other;

@@ -1,15 +1,9 @@
 -- What a load does to a machine. (SDM volume 3D, ELDB and ELDU.)
 use Rattle.std.specs.Prelude.{◌≡◌, ℕ, ◌*◌, ◌<◌, Bool, true, false, length, Some, ◌==◌, if◌then◌else◌}
-use Rattle.ak_core.specs.declared.page.Entry.{Entry}
 use Rattle.ak_epcm.specs.Entries.{entry_at}
 use Rattle.ak_model.specs.Flat.Instructions.{number_at}
-use Rattle.ak_sealed.specs.SealedPages.{SealedPage}
+use Rattle.ak_sealed.specs.SealedPages.{SealedPage, entry_of}
 use Rattle.ak_relation.specs.State.MachineState.{State}
-
--- the entry of a frame that holds the page of a sealed page
-abbrev pub entry_of : SealedPage → Bool → Entry
-entry_of sealed_page blocked =
-    record { valid = true; kind = sealed_page.kind; page = record { 0 = sealed_page.page }; r = sealed_page.r; w = sealed_page.w; x = sealed_page.x; blocked = blocked }
 
 -- frame f holds the page of handle k, with its bytes, and slot i of frame va is empty. The sealed page stays
 pub record LoadsFrom (old new : State) (f k va i : ℕ) (blocked : Bool) : Type 0 where
