@@ -1,5 +1,5 @@
 -- How a leaf answers, and what it leaves beside the machine's paging part.
-use Rattle.std.specs.Prelude.{◌≡◌, ℕ, ◌+◌, Bool, true, false, length, Result}
+use Rattle.std.specs.Prelude.{◌≡◌, ℕ, ◌+◌, ◌≤◌, Bool, true, false, length, Result}
 use Rattle.ak_core.specs.declared.moves.Move.{Move}
 use Rattle.ak_core.specs.declared.page.Frame.{Frame}
 use Rattle.ak_core.specs.declared.page.Handle.{Handle}
@@ -40,9 +40,11 @@ abbrev pub given_by : Answer → ℕ
 given_by (OkHandle k) = 1
 given_by _ = 0
 
--- what no leaf changes: how many frames there are, and the measurement. Each write-out that is done takes one of the spare
+-- what no leaf changes: how many frames there are, and the measurement. Each write-out that is done takes one of the spare, and a leaf
+-- makes one cycle at most
 pub record KeepsRest (old new : Enclave) (answer : Answer) : Type 0 where
   pub frames : length new.frames ≡ length old.frames
   pub entries : length new.entries ≡ length old.entries
   pub measure : new.measure ≡ old.measure
   pub spare : new.handles.spare + given_by answer ≡ old.handles.spare
+  pub cycles : new.track.cycles ≤ old.track.cycles + 1

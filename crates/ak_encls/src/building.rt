@@ -1,18 +1,19 @@
 // The build of an enclave: ECREATE, EADD, EEXTEND and EINIT.
-ghost use Rattle.std.specs.Prelude.{◌≡◌, ◌≢◌, ◌↔◌, ◌+◌, ◌*◌, ◌<◌, ◌≤◌, ◌-◌, ◌++◌, ℕ, true, false, List, [], ◌∷◌, Some, Err, length, replicate, option_map, slice_set, IfOk};
+ghost use Rattle.std.specs.Prelude.{◌≡◌, ◌↔◌, ◌+◌, ◌*◌, ◌^◌, ◌<◌, ◌≤◌, ◌-◌, ◌==◌, if◌then◌else◌, ◌++◌, ℕ, true, false, List, [], ◌∷◌, Some, Err, length, replicate, slice_set, IfOk};
 ghost use Rattle.sha2.specs.Sha256.{sha256};
 ghost use Rattle.ak_epcm.specs.Entries.{entry_at, free_entry, is_addressed, is_of_page, HasNoFrame};
 ghost use Rattle.ak_measure.specs.Absorbed.{HasAbsorbed};
-ghost use Rattle.ak_measure.specs.Blocks.{create_block, add_block, extend_block, chunk_at};
+ghost use Rattle.ak_measure.specs.Blocks.{create_block, add_block, extend_block, chunk_at, page_blocks};
 ghost use Rattle.ak_measure.specs.Secinfo.{secinfo as flags_of};
 ghost use Rattle.ak_measure.specs.Signers.{knows, allows};
-ghost use Rattle.ak_sealed.specs.SealedPages.{sealed_page_at};
+ghost use Rattle.ak_sealed.specs.SealedPages.{sealed_page_at, sealed_page_of};
 ghost use Rattle.ak_track.specs.Tracking.{HoldsSteps};
 ghost use Rattle.ak_encls.specs.Enclave.{blank_page, frame_at};
-ghost use Rattle.ak_encls.specs.Building.{secs_entry, added_entry};
+ghost use Rattle.ak_encls.specs.Sound.{is_slot, with_version};
+ghost use Rattle.ak_encls.specs.Building.{secs_entry, added_entry, IsNotSealed, HasOnlyCycled};
 
 use crate::Encls;
-use ak_core::{Entry, Frame, OutOfMemory, PAGE_SIZE, Page, PageType, Perm};
+use ak_core::{Entry, Frame, Handle, OutOfMemory, PAGE_SIZE, Page, PageType, Perm};
 use ak_epcm::Epcm;
 use ak_measure::{Measure, Signers, secinfo};
 use ak_sealed::Sealed;
@@ -41,6 +42,9 @@ const SECS: Entry = Entry {
 
 /// The bytes of a chunk, which EEXTEND measures.
 const CHUNK_SIZE: usize = 256;
+
+/// The chunks of a page.
+const CHUNKS: u8 = 16;
 
 impl Encls {
     /// An enclave of this size with so many frames of zeros, 1 at least, and processors, 4 at most (SDM volume 3D, ECREATE): the SECS
@@ -80,7 +84,7 @@ impl Encls {
         requires free { (entry_at self.old.entries f.0).valid ≡ false }
         requires kind { is_addressed kind ≡ true }
         requires no_frame { HasNoFrame self.old.entries p.0 }
-        requires not_sealed { (k : ℕ) → option_map (λ sealed_page. sealed_page.page) (sealed_page_at self.old.handles k) ≢ Some p.0 }
+        requires not_sealed { IsNotSealed self.old.handles p.0 }
         ensures entries { self.new.entries ≡ slice_set self.old.entries f.0 (added_entry p kind perm) }
         ensures frames { self.new.frames ≡ slice_set self.old.frames f.0 bytes.now }
         ensures measure { (absorbed : List ℕ) → HasAbsorbed self.old.measure absorbed
@@ -104,6 +108,60 @@ impl Encls {
         let offset = offset_of(self.epcm.entry(f).page) + start as u64;
         let page = &self.frames[f.0 as usize];
         self.measure.extend(offset, &page[start..start + CHUNK_SIZE]);
+    }
+
+    /// Adds a page and measures it whole: EADD, and EEXTEND of its 16 chunks.
+    pub fn add_page(&mut self, f: Frame, p: Page, kind: PageType, perm: Perm, bytes: &[u8; PAGE_SIZE])
+        requires within { f.0 < length self.old.entries }
+        requires free { (entry_at self.old.entries f.0).valid ≡ false }
+        requires kind { is_addressed kind ≡ true }
+        requires no_frame { HasNoFrame self.old.entries p.0 }
+        requires not_sealed { IsNotSealed self.old.handles p.0 }
+        ensures entries { self.new.entries ≡ slice_set self.old.entries f.0 (added_entry p kind perm) }
+        ensures frames { self.new.frames ≡ slice_set self.old.frames f.0 bytes.now }
+        ensures measure { (absorbed : List ℕ) → HasAbsorbed self.old.measure absorbed
+            → HasAbsorbed self.new.measure (absorbed ++ page_blocks (4096 * p.0) (flags_of kind perm) bytes.now) }
+        ensures rest { self.new ≡ record self.old { entries = self.new.entries; frames = self.new.frames; measure = self.new.measure } }
+    {
+        self.eadd(f, p, kind, perm, bytes);
+        for chunk in 0..CHUNKS {
+            self.eextend(f, chunk);
+        }
+    }
+
+    /// Adds a regular page, measures it whole, and writes it out, as the build does with each page of the program: through a free
+    /// frame, and into an empty slot of a VA page. Nobody entered yet. It gives the page's handle.
+    pub fn add_sealed_page(&mut self, f: Frame, p: Page, perm: Perm, bytes: &[u8; PAGE_SIZE], va: Frame, i: u16) -> Handle
+        requires within { f.0 < length self.old.entries }
+        requires free { (entry_at self.old.entries f.0).valid ≡ false }
+        requires no_frame { HasNoFrame self.old.entries p.0 }
+        requires not_sealed { IsNotSealed self.old.handles p.0 }
+        requires slot { is_slot (entry_at self.old.entries va.0) i ≡ true }
+        requires spare { 0 < self.old.handles.spare }
+        requires unentered { HasOnlyCycled self.old.track }
+        requires cycles { self.old.track.cycles < 2 ^ 63 }
+        ensures handle { result.0 ≡ length self.old.handles.sealed_pages }
+        ensures entries { self.new.entries ≡ slice_set self.old.entries f.0 free_entry }
+        ensures others { (g : ℕ) → (g == f.0) ≡ false → frame_at self.new.frames g
+            ≡ (if g == va.0 then with_version (frame_at self.old.frames va.0) i (Some result.0) else frame_at self.old.frames g) }
+        ensures sealed_page { (k : ℕ) → sealed_page_at self.new.handles k
+            ≡ (if k == result.0 then Some (sealed_page_of (added_entry p PageType.Reg perm) bytes.now) else sealed_page_at self.old.handles k) }
+        ensures next { length self.new.handles.sealed_pages ≡ result.0 + 1 }
+        ensures spare { self.new.handles.spare + 1 ≡ self.old.handles.spare }
+        ensures unentered { HasOnlyCycled self.new.track }
+        ensures cycles { self.new.track.cycles ≡ self.old.track.cycles + 1 }
+        ensures lps { self.new.track.lps ≡ self.old.track.lps }
+        ensures measure { (absorbed : List ℕ) → HasAbsorbed self.old.measure absorbed
+            → HasAbsorbed self.new.measure (absorbed ++ page_blocks (4096 * p.0) (flags_of PageType.Reg perm) bytes.now) }
+        ensures rest { self.new ≡ record self.new { stamps = self.old.stamps } }
+        ensures count { length self.new.frames ≡ length self.old.frames }
+    {
+        self.add_page(f, p, PageType::Reg, perm, bytes);
+        // nobody is inside, so that the cycle is over at once, and the page can be written out
+        let Ok(()) = self.track.cycle() else {
+            unreachable!();
+        };
+        self.seal_into(f, va, i)
     }
 
     /// Whether this signer signed the enclave as it was measured (SDM volume 3D, EINIT). Nothing changes.

@@ -1,11 +1,17 @@
 // ELDU and ELDB.
-ghost use Rattle.std.specs.Prelude.{◌≡◌, OnOk, OnErr};
+ghost use Rattle.std.specs.Prelude.{◌≡◌, ℕ, ◌<◌, false, List, Some, None, length, option_map, slice_set, OnOk, OnErr};
 ghost use Rattle.ak_core.specs.Layout.{Layout};
 ghost use Rattle.ak_model.specs.Control.LeafRows.{load_row};
 ghost use Rattle.ak_relation.specs.State.MachineState.{State};
 ghost use Rattle.ak_relation.specs.State.MachineView.{view_in};
 ghost use Rattle.ak_encls.specs.Answering.{answer_in, IsOutcome, KeepsRest, load_move};
+ghost use Rattle.ak_epcm.specs.Entries.{entry_at};
+ghost use Rattle.ak_sealed.specs.SealedPages.{entry_of, sealed_page_at};
+ghost use Rattle.ak_track.specs.Steps.{TrackStep};
+ghost use Rattle.ak_track.specs.Tracking.{HoldsSteps, StampOf};
+ghost use Rattle.ak_encls.specs.Enclave.{frame_at, stamp_at};
 ghost use Rattle.ak_encls.specs.Paging.{IsPaging, LeadsTo};
+ghost use Rattle.ak_encls.specs.Sound.{slot_in, with_version};
 
 use crate::Encls;
 use ak_core::{Answer, Entry, Frame, Handle, Page};
@@ -40,10 +46,27 @@ impl Encls {
         if version != u64::from(h.0) || entry.page != p {
             return Err(Answer::MacFail);
         }
+        self.load_into(f, h, va, i, Entry { blocked, ..entry });
+        Ok(Answer::Ok)
+    }
+
+    // Puts the bytes of a sealed page into a free frame, with this entry, and empties the slot that names the page.
+    fn load_into(&mut self, f: Frame, h: Handle, va: Frame, i: u16, entry: Entry)
+        requires within { f.0 < length self.old.entries }
+        requires free { (entry_at self.old.entries f.0).valid ≡ false }
+        requires slot { slot_in self.old.entries self.old.frames va.0 i ≡ Some h.0 }
+        requires sealed { option_map (λ sealed_page. entry_of sealed_page entry.blocked) (sealed_page_at self.old.handles h.0) ≡ Some entry }
+        ensures entries { self.new.entries ≡ slice_set self.old.entries f.0 entry }
+        ensures bytes { option_map (λ sealed_page. sealed_page.bytes) (sealed_page_at self.old.handles h.0) ≡ Some (frame_at self.new.frames f.0) }
+        ensures frames { self.new.frames ≡ slice_set (slice_set self.old.frames f.0 (frame_at self.new.frames f.0)) va.0 (with_version (frame_at self.old.frames va.0) i None) }
+        ensures stamp { (lps : ℕ) (steps : List TrackStep) → HoldsSteps self.old.track lps steps
+            → StampOf (stamp_at self.new.stamps f.0) lps steps (length steps) }
+        ensures stamps { self.new.stamps ≡ slice_set self.old.stamps f.0 (stamp_at self.new.stamps f.0) }
+        ensures rest { self.new ≡ record self.old { entries = self.new.entries; frames = self.new.frames; stamps = self.new.stamps } }
+    {
         self.sealed.copy_out(h, &mut self.frames[f.0 as usize]);
         set_slot(&mut self.frames[va.0 as usize], i, None);
         self.stamps[f.0 as usize] = self.track.stamp();
-        self.epcm.set(f, Entry { blocked, ..entry });
-        Ok(Answer::Ok)
+        self.epcm.set(f, entry);
     }
 }

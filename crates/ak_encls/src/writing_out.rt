@@ -1,15 +1,19 @@
 // EWB.
-ghost use Rattle.std.specs.Prelude.{◌≡◌, ◌<◌, OnOk, OnErr};
+ghost use Rattle.std.specs.Prelude.{◌≡◌, ℕ, ◌+◌, ◌<◌, ◌==◌, if◌then◌else◌, true, Some, length, slice_set, OnOk, OnErr};
 ghost use Rattle.ak_core.specs.Layout.{Layout};
 ghost use Rattle.ak_core.specs.declared.moves.Move.TheVariants.{Ewb};
 ghost use Rattle.ak_model.specs.Control.LeafRows.{write_out_row};
 ghost use Rattle.ak_relation.specs.State.MachineState.{State};
 ghost use Rattle.ak_relation.specs.State.MachineView.{view_in};
 ghost use Rattle.ak_encls.specs.Answering.{answer_in, IsOutcome, KeepsRest};
+ghost use Rattle.ak_epcm.specs.Entries.{entry_at, free_entry, is_of_page};
+ghost use Rattle.ak_sealed.specs.SealedPages.{sealed_page_at, sealed_page_of};
+ghost use Rattle.ak_encls.specs.Enclave.{frame_at};
 ghost use Rattle.ak_encls.specs.Paging.{IsPaging, LeadsTo};
+ghost use Rattle.ak_encls.specs.Sound.{is_slot, with_version};
 
 use crate::Encls;
-use ak_core::{Answer, Frame};
+use ak_core::{Answer, Frame, Handle};
 use ak_sealed::set_slot;
 
 impl Encls {
@@ -33,9 +37,28 @@ impl Encls {
         if self.slot_of(va, i)?.is_some() {
             return Err(Answer::SlotOccupied);
         }
+        let handle = self.seal_into(f, va, i);
+        Ok(Answer::OkHandle(handle))
+    }
+
+    /// Seals the page of a frame under the next handle, whose version comes into an empty slot of a VA page. The frame is free then.
+    pub(crate) fn seal_into(&mut self, f: Frame, va: Frame, i: u16) -> Handle
+        requires spare { 0 < self.old.handles.spare }
+        requires page { is_of_page (entry_at self.old.entries f.0) ≡ true }
+        requires slot { is_slot (entry_at self.old.entries va.0) i ≡ true }
+        ensures handle { result.0 ≡ length self.old.handles.sealed_pages }
+        ensures entries { self.new.entries ≡ slice_set self.old.entries f.0 free_entry }
+        ensures frames { self.new.frames ≡ slice_set self.old.frames va.0 (with_version (frame_at self.old.frames va.0) i (Some (length self.old.handles.sealed_pages))) }
+        ensures sealed_page { (k : ℕ) → sealed_page_at self.new.handles k
+            ≡ (if k == length self.old.handles.sealed_pages then Some (sealed_page_of (entry_at self.old.entries f.0) (frame_at self.old.frames f.0)) else sealed_page_at self.old.handles k) }
+        ensures next { length self.new.handles.sealed_pages ≡ length self.old.handles.sealed_pages + 1 }
+        ensures spare { self.new.handles.spare + 1 ≡ self.old.handles.spare }
+        ensures rest { self.new ≡ record self.old { entries = self.new.entries; frames = self.new.frames; handles = self.new.handles } }
+    {
+        let entry = self.epcm.entry(f);
         let handle = self.sealed.put(entry, &self.frames[f.0 as usize]);
         self.epcm.release(f);
         set_slot(&mut self.frames[va.0 as usize], i, Some(handle));
-        Ok(Answer::OkHandle(handle))
+        handle
     }
 }

@@ -2,6 +2,8 @@
 use Rattle.std.specs.Prelude.{◌≡◌, ℕ, true, false}
 use Rattle.ak_core.specs.declared.moves.Move.{Move}
 use Rattle.ak_core.specs.declared.moves.Move.TheVariants.{Eblock, Etrack, Ewb, Eldu, Eldb, Eremove, Epa, Discard}
+use Rattle.ak_core.specs.declared.moves.Answer.{Answer}
+use Rattle.ak_core.specs.declared.moves.Answer.TheVariants.{Ok, OkHandle}
 use Rattle.ak_relation.specs.State.MachineState.{State}
 use Rattle.ak_relation.specs.State.TableChanges.{BlocksEntry, FreesEntry, with_block, with_cycle, with_entries, without_sealed_page}
 use Rattle.ak_relation.specs.Premises.WriteOut.{WritesOutTo}
@@ -29,3 +31,8 @@ DoesLeaf old new (Eremove f) = Frees old new f.0
 DoesLeaf old new (Epa f) = MakesSlots old new f.0
 DoesLeaf old new (Discard k) = new ≡ without_sealed_page old k.0
 DoesLeaf old new _ = Unit {0}
+
+-- how a leaf that is done is answered, where so many handles were given
+abbrev pub done_answer : ℕ → Move → Answer
+done_answer given (Ewb f va i) = OkHandle (record { 0 = given })
+done_answer given _ = Ok
