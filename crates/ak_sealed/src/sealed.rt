@@ -131,9 +131,12 @@ impl Sealed {
         ensures next { length self.new.sealed_pages ≡ length self.old.sealed_pages }
         ensures spare { self.new.spare ≡ self.old.spare }
     {
-        match self.pages.get_mut(h.0 as usize) {
-            Some(place) => place.take().is_some(),
-            None => false,
+        match self.pages.get(h.0 as usize) {
+            Some(Some(_)) => {
+                self.pages[h.0 as usize] = None;
+                true
+            }
+            _ => false,
         }
     }
 

@@ -1,5 +1,5 @@
 -- For which steps the code's tracking stands, and at which place a stamp was given. (SDM volume 3D, ETRACK.)
-use Rattle.std.specs.Prelude.{◌≡◌, ℕ, ◌≤◌, Bool, true, false, ◌&&◌, List, [], ◌∷◌, length, filter, count_by, nat_lt, nat_le, slice_index_or}
+use Rattle.std.specs.Prelude.{◌≡◌, ℕ, ◌≤◌, Bool, true, false, ◌&&◌, List, [], ◌∷◌, length, filter, nat_lt, nat_le, slice_index_or}
 use Rattle.std.specs.List.{range_with_len, list_all}
 use Rattle.ak_model.specs.Paging.Tracking.{Cycle, is_over}
 use Rattle.ak_track.specs.Steps.{TrackStep, inside_by, cycles_by}
@@ -33,4 +33,4 @@ pub record HoldsSteps (track : Marks) (lps : ℕ) (steps : List TrackStep) : Typ
 -- the stamp is that of this place: it counts the cycles up to there
 pub record StampOf (stamp : Stamp) (lps : ℕ) (steps : List TrackStep) (place : ℕ) : Type 0 where
   pub within : place ≤ length steps
-  pub count : count_by (λ cycle. nat_le cycle.at place) (cycles_by lps steps) ≡ stamp.cycles
+  pub count : length (filter (λ cycle. nat_le cycle.at place) (cycles_by lps steps)) ≡ stamp.cycles

@@ -1,0 +1,2 @@
+pub mod OtherSlots
+pub mod Discarded
