@@ -120,6 +120,13 @@ impl Track {
         ensures { (lps : ℕ) (steps : List TrackStep) → HoldsSteps self.now lps steps
             → result ≡ list_any (inside_by steps) (range_with_len 0 lps) }
     {
+        self.has_marked_inside()
+    }
+
+    // Some processor is marked as inside.
+    fn has_marked_inside(&self) -> bool
+        ensures { result ≡ list_any (λ inside. inside) self.now.inside }
+    {
         self.inside.iter().any(|inside| *inside)
     }
 
