@@ -47,4 +47,5 @@ pub record KeepsRest (old new : Enclave) (answer : Answer) : Type 0 where
   pub entries : length new.entries ≡ length old.entries
   pub measure : new.measure ≡ old.measure
   pub spare : new.handles.spare + given_by answer ≡ old.handles.spare
+  pub given : length new.handles.sealed_pages ≡ length old.handles.sealed_pages + given_by answer
   pub cycles : new.track.cycles ≤ old.track.cycles + 1
