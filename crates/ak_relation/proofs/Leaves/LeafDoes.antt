@@ -28,7 +28,7 @@ abbrev pub OnlyDone : Answer → Answer → Type 0
 OnlyDone a done = is_done a ≡ true → a ≡ done
 
 refusal : (a done : Answer) → is_done a ≡ false → OnlyDone a done
-refusal a done no yes = absurd (let both : true ≡ false = sym yes ∙ no in cc)
+refusal a done undone done_is = absurd (let both : true ≡ false = sym done_is ∙ undone in cc)
 
 if_done : (b : Bool) (x y done : Answer) → OnlyDone x done → OnlyDone y done → OnlyDone (if b then x else y) done
 if_done true x y done first second = first
@@ -46,7 +46,7 @@ page_done VaFrame a done only = refusal WrongType done refl
 page_done (PageFrame p) a done only = only
 
 self_done : (a : Answer) → OnlyDone a a
-self_done a yes = refl
+self_done a done_is = refl
 
 mac_done : (view : View) (o : Option ℕ) (k p : ℕ) → OnlyDone (mac_row view o k p) Ok
 mac_done view None k p = refusal SlotEmpty Ok refl
