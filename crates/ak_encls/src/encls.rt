@@ -40,6 +40,8 @@ impl Model for Encls {
 }
 
 impl Encls {
+    ghost use Rattle.ak_encls.specs.Lending.{LendsFrame};
+
     /// The EPCM.
     pub fn epcm(&self) -> &Epcm
         ensures { result.now ≡ self.now.entries }
@@ -53,6 +55,15 @@ impl Encls {
         ensures { result.now ≡ frame_at self.now.frames f.0 }
     {
         &self.frames[f.0 as usize]
+    }
+
+    /// The bytes of a frame that holds a page of the enclave, to be changed.
+    pub fn frame_mut(&mut self, f: Frame) -> &mut [u8; PAGE_SIZE]
+        requires { is_of_page (entry_at self.old.entries f.0) ≡ true }
+        ensures* writes_back { sem 𝓛 (LendsFrame self.entry f.0 result) }
+        ensures bytes { result.now ≡ frame_at self.old.frames f.0 }
+    {
+        &mut self.frames[f.0 as usize]
     }
 
     /// Makes blank pages, so that so many pages can be written out with no more memory. Where memory runs out it may have made some.

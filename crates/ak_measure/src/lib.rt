@@ -7,12 +7,10 @@ mod document;
 mod fault;
 mod laws;
 mod measurement;
-mod secinfo;
 mod signers;
 
 pub use document::read_document;
 pub use fault::{DocumentFault, SignersFault};
 pub use laws::{blocks_tell_the_enclave, bytes_of_blocks, membership, one_more_page};
-pub use measurement::Measure;
-pub use secinfo::secinfo;
+pub use measurement::{Measure, secinfo};
 pub use signers::Signers;
