@@ -26,9 +26,12 @@ is_slot entry i = (entry.valid && is_va_type entry.kind) && nat_lt i 512
 abbrev pub with_version : List ℕ → ℕ → Option ℕ → List ℕ
 with_version va i handle = overwrite va (8 * i) (le_bytes 8 (version handle))
 
--- the handle whose version is in a slot of a VA page
+-- the handle whose version is in a slot of a VA page, by the frame's entry and bytes
+abbrev pub slot_by : Entry → List ℕ → ℕ → Option ℕ
+slot_by entry bytes i = if is_slot entry i then handle_in (number_at bytes (8 * i) 8) else None
+
 abbrev pub slot_in : List Entry → List (List ℕ) → ℕ → ℕ → Option ℕ
-slot_in entries frames va i = if is_slot (entry_at entries va) i then handle_in (number_at (frame_at frames va) (8 * i) 8) else None
+slot_in entries frames va i = slot_by (entry_at entries va) (frame_at frames va) i
 
 -- the sealed page of a handle
 abbrev pub sealed_in : Handles → Option ℕ → Option SealedPage
