@@ -1,2 +1,3 @@
-pub mod Slots
+pub mod SlotChanges
 pub mod Versions
+pub mod Soundness

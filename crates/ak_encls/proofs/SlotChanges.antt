@@ -1,5 +1,5 @@
 -- What slots hold after an entry or the bytes of a frame changed.
-use Rattle.std.proofs.Common.{◌≡◌, ◌≢◌, ◌⊎◌, inl, inr, ℕ, ◌*◌, ◌<◌, Bool, true, false, ◌&&◌, ◌==◌, if◌then◌else◌, List, length, set, refl, ap, sym, ◌∙◌, get_or-set_same, get_or-set_other}
+use Rattle.std.proofs.Common.{◌≡◌, ◌≢◌, ◌⊎◌, inl, inr, ℕ, zero, suc, ◌*◌, ◌<◌, Bool, true, false, ◌&&◌, ◌==◌, if◌then◌else◌, List, [], ◌∷◌, length, get_or, set, arith, refl, ap, sym, ◌∙◌, get_or-set_same, get_or-set_other}
 use Rattle.std.specs.Prelude.{nat_lt, Option, None}
 use Rattle.std.proofs.lemmas.Bool.{eqb-false, cases_lt, false≢true}
 use Rattle.std.proofs.lemmas.Bool.Decides.{eqb_tells}
@@ -20,6 +20,12 @@ frame_same frames f bytes within = get_or-set_same frames f bytes blank_page wit
 
 pub frame_other : (frames : List (List ℕ)) (f g : ℕ) (bytes : List ℕ) → g ≢ f → frame_at (set frames f bytes) g ≡ frame_at frames g
 frame_other frames f g bytes other = get_or-set_other frames f g bytes blank_page other
+
+-- a frame of the page cache has the bytes that are read there
+pub frame_read : (frames : List (List ℕ)) (f : ℕ) (d : List ℕ) → f < length frames → get_or frames f d ≡ frame_at frames f
+frame_read (bytes ∷ frames) zero d within = refl
+frame_read (bytes ∷ frames) (suc f) d within = frame_read frames f d (omega arith)
+frame_read [] f d within = absurd (omega arith)
 
 pub entry_same : (entries : List Entry) (f : ℕ) (entry : Entry) → f < length entries → entry_at (set entries f entry) f ≡ entry
 entry_same entries f entry within = get_or-set_same entries f entry free_entry within
@@ -52,14 +58,6 @@ no_va true Va e = absurd (cc)
 pub page_no_slot : (entry : Entry) (bytes : List ℕ) (i : ℕ) → is_of_page entry ≡ true → slot_by entry bytes i ≡ None
 page_no_slot entry bytes i page =
     slot_none (entry.valid && is_va_type entry.kind) (nat_lt i 512) (number_at bytes (8 * i) 8) (no_va entry.valid entry.kind page)
-
--- a slot is one of another frame than a page's
-pub slot_not_page : (entry : Entry) (i : ℕ) → is_slot entry i ≡ true → is_of_page entry ≡ true → (A : Type 0) → A
-slot_not_page entry i slot page A = absurd (by (entry.valid && is_va_type entry.kind) (nat_lt i 512) (no_va entry.valid entry.kind page) slot)
-  where
-    by : (b c : Bool) → b ≡ false → (b && c) ≡ true → true ≡ false
-    by false c e h = sym h
-    by true c e h = e
 
 -- ---- Changes
 
