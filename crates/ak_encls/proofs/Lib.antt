@@ -1,3 +1,4 @@
 pub mod SlotChanges
 pub mod Versions
 pub mod Soundness
+pub mod Discarding

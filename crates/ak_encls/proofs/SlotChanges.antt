@@ -21,11 +21,15 @@ frame_same frames f bytes within = get_or-set_same frames f bytes blank_page wit
 pub frame_other : (frames : List (List ℕ)) (f g : ℕ) (bytes : List ℕ) → g ≢ f → frame_at (set frames f bytes) g ≡ frame_at frames g
 frame_other frames f g bytes other = get_or-set_other frames f g bytes blank_page other
 
+-- an element is the same whatever is read past the end
+pub read_any : {A : Type 0} (xs : List A) (k : ℕ) (d e : A) → k < length xs → get_or xs k d ≡ get_or xs k e
+read_any (x ∷ xs) zero d e within = refl
+read_any (x ∷ xs) (suc k) d e within = read_any xs k d e (omega arith)
+read_any [] k d e within = absurd (omega arith)
+
 -- a frame of the page cache has the bytes that are read there
 pub frame_read : (frames : List (List ℕ)) (f : ℕ) (d : List ℕ) → f < length frames → get_or frames f d ≡ frame_at frames f
-frame_read (bytes ∷ frames) zero d within = refl
-frame_read (bytes ∷ frames) (suc f) d within = frame_read frames f d (omega arith)
-frame_read [] f d within = absurd (omega arith)
+frame_read frames f d within = read_any frames f d blank_page within
 
 pub entry_same : (entries : List Entry) (f : ℕ) (entry : Entry) → f < length entries → entry_at (set entries f entry) f ≡ entry
 entry_same entries f entry within = get_or-set_same entries f entry free_entry within

@@ -66,8 +66,13 @@ slot_valid entry i slot = (page_type entry.valid (is_va_type entry.kind) (page_t
 pub slot_index : (entry : Entry) (i : ℕ) → is_slot entry i ≡ true → i < 512
 slot_index entry i slot = ltb-true i 512 (page_type (entry.valid && is_va_type entry.kind) (nat_lt i 512) slot).1
 
+-- the frame of a slot is no free one
+pub slot_differs : (entries : List Entry) (f va i : ℕ) → (entry_at entries f).valid ≡ false → is_slot (entry_at entries va) i ≡ true → va ≢ f
+slot_differs entries f va i free slot same =
+    false≢true (sym free ∙ ap (λ g. (entry_at entries g).valid) (sym same) ∙ slot_valid (entry_at entries va) i slot)
+
 -- a slot that holds something is a slot
-some_slot : (entry : Entry) (bytes : List ℕ) (i k : ℕ) → slot_by entry bytes i ≡ Some k → is_slot entry i ≡ true
+pub some_slot : (entry : Entry) (bytes : List ℕ) (i k : ℕ) → slot_by entry bytes i ≡ Some k → is_slot entry i ≡ true
 some_slot entry bytes i k e = by (is_slot entry i) (handle_in (number_at bytes (8 * i) 8)) e
   where
     by : (b : Bool) (o : Option ℕ) → (if b then o else None) ≡ Some k → b ≡ true
@@ -85,7 +90,7 @@ slot_within entries frames stamps handles sound va i slot =
 same_slots : (slots slots' : ℕ → ℕ → Option ℕ) → ((va i : ℕ) → slots' va i ≡ slots va i) → (va i : ℕ) → (slots' va i ≡ slots va i) ⊎ (slots' va i ≡ None)
 same_slots slots slots' same va i = inl (same va i)
 
-same_pages : (handles handles' : Handles) → handles'.sealed_pages ≡ handles.sealed_pages → (k : ℕ) → (sealed_page_at handles' k ≡ sealed_page_at handles k) ⊎ (sealed_page_at handles' k ≡ None)
+pub same_pages : (handles handles' : Handles) → handles'.sealed_pages ≡ handles.sealed_pages → (k : ℕ) → (sealed_page_at handles' k ≡ sealed_page_at handles k) ⊎ (sealed_page_at handles' k ≡ None)
 same_pages handles handles' same k =
     inl (ap (λ pages. sealed_page_at (record { sealed_pages = pages; spare = 0 }) k) same)
 
@@ -219,7 +224,7 @@ module _ (entries : List Entry) (frames : Frames) (stamps : List Stamp) (handles
 
   -- the VA page is another frame
   pub va_differs : va ≢ f
-  va_differs same = false≢true (sym free ∙ ap (λ g. (entry_at entries g).valid) (sym same) ∙ slot_valid (entry_at entries va) i has_slot)
+  va_differs = slot_differs entries f va i free has_slot
 
   pub va_within : va < length entries
   va_within = valid_within entries va (slot_valid (entry_at entries va) i has_slot)

@@ -6,9 +6,8 @@ use Rattle.ak_core.specs.declared.page.Entry.{Entry}
 use Rattle.ak_core.specs.declared.page.PageType.{PageType}
 use Rattle.ak_core.specs.declared.page.PageType.TheVariants.{Secs, Tcs, Reg, Va}
 use Rattle.ak_epcm.specs.Entries.{entry_at, is_addressed, HasNoFrame}
-use Rattle.ak_model.specs.Flat.FlatRuns.{overwrite}
-use Rattle.ak_model.specs.Flat.Instructions.{le_bytes, number_at}
-use Rattle.ak_sealed.specs.SealedPages.{SealedPage, Handles, version, handle_in, sealed_page_at}
+use Rattle.ak_model.specs.Flat.Instructions.{number_at}
+use Rattle.ak_sealed.specs.SealedPages.{SealedPage, Handles, handle_in, sealed_page_at}
 use Rattle.ak_track.specs.declared.track.Stamp.{Stamp}
 use Rattle.ak_encls.specs.Enclave.{frame_at}
 
@@ -21,10 +20,6 @@ is_va_type Reg = false
 -- the frame is a VA page that has this slot
 abbrev pub is_slot : Entry → ℕ → Bool
 is_slot entry i = (entry.valid && is_va_type entry.kind) && nat_lt i 512
-
--- a VA page with this in a slot
-abbrev pub with_version : List ℕ → ℕ → Option ℕ → List ℕ
-with_version va i handle = overwrite va (8 * i) (le_bytes 8 (version handle))
 
 -- the handle whose version is in a slot of a VA page, by the frame's entry and bytes
 abbrev pub slot_by : Entry → List ℕ → ℕ → Option ℕ

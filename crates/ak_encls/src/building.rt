@@ -1,6 +1,7 @@
 // The build of an enclave: ECREATE, EADD, EEXTEND and EINIT.
 ghost use Rattle.std.specs.Prelude.{◌≡◌, ◌↔◌, ◌+◌, ◌*◌, ◌^◌, ◌<◌, ◌≤◌, ◌-◌, ◌==◌, if◌then◌else◌, ◌++◌, ℕ, true, false, List, [], ◌∷◌, Some, Err, length, replicate, slice_set, IfOk};
 ghost use Rattle.sha2.specs.Sha256.{sha256};
+ghost use Rattle.ak_model.specs.Flat.Instructions.{number_at};
 ghost use Rattle.ak_epcm.specs.Entries.{entry_at, free_entry, is_addressed, is_of_page, HasNoFrame};
 ghost use Rattle.ak_measure.specs.Absorbed.{HasAbsorbed};
 ghost use Rattle.ak_measure.specs.Blocks.{create_block, add_block, extend_block, chunk_at, page_blocks};
@@ -9,7 +10,7 @@ ghost use Rattle.ak_measure.specs.Signers.{knows, allows};
 ghost use Rattle.ak_sealed.specs.SealedPages.{sealed_page_at, sealed_page_of};
 ghost use Rattle.ak_track.specs.Tracking.{HoldsSteps};
 ghost use Rattle.ak_encls.specs.Enclave.{blank_page, frame_at};
-ghost use Rattle.ak_encls.specs.Sound.{is_slot, with_version};
+ghost use Rattle.ak_encls.specs.Sound.{is_slot};
 ghost use Rattle.ak_encls.specs.Building.{secs_entry, added_entry, IsNotSealed, HasOnlyCycled};
 
 use crate::Encls;
@@ -59,7 +60,7 @@ impl Encls {
         ensures measure { IfOk result (λ encls. HasAbsorbed encls.measure (create_block size)) }
     {
         let track = Track::new(lps);
-        let Ok(pages) = vec![in alloc; [0; PAGE_SIZE]; frames as usize] else {
+        let Ok(pages) = vec![in alloc; zeros(); frames as usize] else {
             return Err(OutOfMemory);
         };
         let Ok(stamps) = vec![in alloc; track.stamp(); frames as usize] else {
@@ -142,8 +143,10 @@ impl Encls {
         requires cycles { self.old.track.cycles < 2 ^ 63 }
         ensures handle { result.0 ≡ length self.old.handles.sealed_pages }
         ensures entries { self.new.entries ≡ slice_set self.old.entries f.0 free_entry }
-        ensures others { (g : ℕ) → (g == f.0) ≡ false → frame_at self.new.frames g
-            ≡ (if g == va.0 then with_version (frame_at self.old.frames va.0) i (Some result.0) else frame_at self.old.frames g) }
+        ensures slot { number_at (frame_at self.new.frames va.0) (8 * i) 8 ≡ result.0 + 1 }
+        ensures slots { (j : ℕ) → (j == i) ≡ false
+            → number_at (frame_at self.new.frames va.0) (8 * j) 8 ≡ number_at (frame_at self.old.frames va.0) (8 * j) 8 }
+        ensures others { (g : ℕ) → (g == f.0) ≡ false → (g == va.0) ≡ false → frame_at self.new.frames g ≡ frame_at self.old.frames g }
         ensures sealed_page { (k : ℕ) → sealed_page_at self.new.handles k
             ≡ (if k == result.0 then Some (sealed_page_of (added_entry p PageType.Reg perm) bytes.now) else sealed_page_at self.old.handles k) }
         ensures next { length self.new.handles.sealed_pages ≡ result.0 + 1 }
@@ -178,6 +181,14 @@ impl Encls {
         }
         Ok(())
     }
+}
+
+// A page of zeros.
+#[tactic(auto, unfolding(crate::specs::Enclave::blank_page))]
+fn zeros() -> [u8; PAGE_SIZE]
+    ensures { result ≡ blank_page }
+{
+    [0; PAGE_SIZE]
 }
 
 // The entry of an added page.

@@ -1,17 +1,18 @@
 // ELDU and ELDB.
-ghost use Rattle.std.specs.Prelude.{◌≡◌, ℕ, ◌<◌, false, List, Some, None, length, option_map, slice_set, OnOk, OnErr};
+ghost use Rattle.std.specs.Prelude.{◌≡◌, ℕ, ◌*◌, ◌<◌, ◌==◌, false, List, Some, length, option_map, slice_set, OnOk, OnErr};
 ghost use Rattle.ak_core.specs.Layout.{Layout};
 ghost use Rattle.ak_model.specs.Control.LeafRows.{load_row};
 ghost use Rattle.ak_relation.specs.State.MachineState.{State};
 ghost use Rattle.ak_relation.specs.State.MachineView.{view_in};
 ghost use Rattle.ak_encls.specs.Answering.{answer_in, IsOutcome, KeepsRest, load_move};
+ghost use Rattle.ak_model.specs.Flat.Instructions.{number_at};
 ghost use Rattle.ak_epcm.specs.Entries.{entry_at};
 ghost use Rattle.ak_sealed.specs.SealedPages.{entry_of, sealed_page_at};
 ghost use Rattle.ak_track.specs.Steps.{TrackStep};
 ghost use Rattle.ak_track.specs.Tracking.{HoldsSteps, StampOf};
 ghost use Rattle.ak_encls.specs.Enclave.{frame_at, stamp_at};
 ghost use Rattle.ak_encls.specs.Paging.{IsPaging, LeadsTo};
-ghost use Rattle.ak_encls.specs.Sound.{slot_in, with_version};
+ghost use Rattle.ak_encls.specs.Sound.{slot_in};
 
 use crate::Encls;
 use ak_core::{Answer, Entry, Frame, Handle, Page};
@@ -58,7 +59,12 @@ impl Encls {
         requires sealed { option_map (λ sealed_page. entry_of sealed_page entry.blocked) (sealed_page_at self.old.handles h.0) ≡ Some entry }
         ensures entries { self.new.entries ≡ slice_set self.old.entries f.0 entry }
         ensures bytes { option_map (λ sealed_page. sealed_page.bytes) (sealed_page_at self.old.handles h.0) ≡ Some (frame_at self.new.frames f.0) }
-        ensures frames { self.new.frames ≡ slice_set (slice_set self.old.frames f.0 (frame_at self.new.frames f.0)) va.0 (with_version (frame_at self.old.frames va.0) i None) }
+        ensures slot { number_at (frame_at self.new.frames va.0) (8 * i) 8 ≡ 0 }
+        ensures slots { (j : ℕ) → (j == i) ≡ false
+            → number_at (frame_at self.new.frames va.0) (8 * j) 8 ≡ number_at (frame_at self.old.frames va.0) (8 * j) 8 }
+        ensures others { (g : ℕ) → (g == f.0) ≡ false → (g == va.0) ≡ false → frame_at self.new.frames g ≡ frame_at self.old.frames g }
+        ensures lengths { (g : ℕ) → length (frame_at self.new.frames g) ≡ length (frame_at self.old.frames g) }
+        ensures count { length self.new.frames ≡ length self.old.frames }
         ensures stamp { (lps : ℕ) (steps : List TrackStep) → HoldsSteps self.old.track lps steps
             → StampOf (stamp_at self.new.stamps f.0) lps steps (length steps) }
         ensures stamps { self.new.stamps ≡ slice_set self.old.stamps f.0 (stamp_at self.new.stamps f.0) }

@@ -1,13 +1,14 @@
 // EREMOVE, and the giving up of a sealed page.
-ghost use Rattle.std.specs.Prelude.{◌≡◌, ◌<◌, true, false, length, IfOk, IfErr, OnOk, OnErr};
+ghost use Rattle.std.specs.Prelude.{◌≡◌, ℕ, ◌<◌, ◌==◌, if◌then◌else◌, is_some, None, true, false, length, slice_set, IfOk, IfErr, OnOk, OnErr};
 ghost use Rattle.ak_core.specs.Layout.{Layout};
 ghost use Rattle.ak_core.specs.declared.moves.Move.TheVariants.{Eremove, Discard};
 ghost use Rattle.ak_model.specs.Control.LeafRows.{leaf_row, remove_row};
-ghost use Rattle.ak_epcm.specs.Entries.{entry_at};
+ghost use Rattle.ak_epcm.specs.Entries.{entry_at, free_entry};
 ghost use Rattle.ak_model.specs.Kernels.Repeats.{is_done};
 ghost use Rattle.ak_relation.specs.State.MachineState.{State};
 ghost use Rattle.ak_relation.specs.State.MachineView.{view_in};
 ghost use Rattle.ak_encls.specs.Answering.{answer_in, IsOutcome, KeepsRest, unless};
+ghost use Rattle.ak_sealed.specs.SealedPages.{sealed_page_at};
 ghost use Rattle.ak_encls.specs.Paging.{IsPaging, LeadsTo};
 
 use crate::Encls;
@@ -24,7 +25,7 @@ impl Encls {
         ensures kind { IsOutcome result }
     {
         self.check_removable(f)?;
-        self.epcm.release(f);
+        self.free(f);
         Ok(Answer::Ok)
     }
 
@@ -36,11 +37,32 @@ impl Encls {
         ensures rest { KeepsRest self.old self.new (answer_in result) }
         ensures kind { IsOutcome result }
     {
-        if self.sealed.discard(h) {
+        if self.give_up(h) {
             Ok(Answer::Ok)
         } else {
             Err(Answer::NoHandle)
         }
+    }
+
+    // Gives up a sealed page. False where there was none, and then nothing changes.
+    fn give_up(&mut self, h: Handle) -> bool
+        ensures live { result ≡ is_some (sealed_page_at self.old.handles h.0) }
+        ensures dead { result ≡ false → self.new ≡ self.old }
+        ensures sealed_page { (k : ℕ) → sealed_page_at self.new.handles k ≡ (if k == h.0 then None else sealed_page_at self.old.handles k) }
+        ensures next { length self.new.handles.sealed_pages ≡ length self.old.handles.sealed_pages }
+        ensures spare { self.new.handles.spare ≡ self.old.handles.spare }
+        ensures rest { self.new ≡ record self.old { handles = self.new.handles } }
+    {
+        self.sealed.discard(h)
+    }
+
+    // A frame in use is free.
+    fn free(&mut self, f: Frame)
+        requires valid { (entry_at self.old.entries f.0).valid ≡ true }
+        ensures entries { self.new.entries ≡ slice_set self.old.entries f.0 free_entry }
+        ensures rest { self.new ≡ record self.old { entries = self.new.entries } }
+    {
+        self.epcm.release(f);
     }
 
     // EREMOVE may free the frame.

@@ -1,11 +1,14 @@
 // EPA.
-ghost use Rattle.std.specs.Prelude.{◌≡◌, OnOk, OnErr};
+ghost use Rattle.std.specs.Prelude.{◌≡◌, ◌<◌, false, length, replicate, slice_set, OnOk, OnErr};
 ghost use Rattle.ak_core.specs.Layout.{Layout};
 ghost use Rattle.ak_core.specs.declared.moves.Move.TheVariants.{Epa};
 ghost use Rattle.ak_model.specs.Control.LeafRows.{va_row};
 ghost use Rattle.ak_relation.specs.State.MachineState.{State};
 ghost use Rattle.ak_relation.specs.State.MachineView.{view_in};
 ghost use Rattle.ak_encls.specs.Answering.{answer_in, IsOutcome, KeepsRest};
+ghost use Rattle.ak_epcm.specs.Entries.{entry_at};
+ghost use Rattle.ak_encls.specs.Building.{va_entry};
+ghost use Rattle.ak_encls.specs.Enclave.{frame_at};
 ghost use Rattle.ak_encls.specs.Paging.{IsPaging, LeadsTo};
 
 use crate::Encls;
@@ -32,8 +35,26 @@ impl Encls {
         ensures kind { IsOutcome result }
     {
         self.check_free(f)?;
-        self.frames[f.0 as usize] = [0; PAGE_SIZE];
-        self.epcm.set(f, VA);
+        self.set_va(f);
         Ok(Answer::Ok)
     }
+
+    // A free frame is a VA page of zeros.
+    fn set_va(&mut self, f: Frame)
+        requires within { f.0 < length self.old.entries }
+        requires free { (entry_at self.old.entries f.0).valid ≡ false }
+        ensures entries { self.new.entries ≡ slice_set self.old.entries f.0 va_entry }
+        ensures frames { self.new.frames ≡ slice_set self.old.frames f.0 (replicate (length (frame_at self.old.frames f.0)) 0) }
+        ensures rest { self.new ≡ record self.old { entries = self.new.entries; frames = self.new.frames } }
+    {
+        fill_zeros(&mut self.frames[f.0 as usize]);
+        self.epcm.set(f, VA);
+    }
+}
+
+// All bytes of a page are zero.
+fn fill_zeros(page: &mut [u8; PAGE_SIZE])
+    ensures { page.new ≡ replicate (length page.old) 0 }
+{
+    page.fill(0);
 }

@@ -1,16 +1,17 @@
 // EWB.
-ghost use Rattle.std.specs.Prelude.{◌≡◌, ℕ, ◌+◌, ◌<◌, ◌==◌, if◌then◌else◌, true, Some, length, slice_set, OnOk, OnErr};
+ghost use Rattle.std.specs.Prelude.{◌≡◌, ℕ, ◌+◌, ◌*◌, ◌<◌, ◌==◌, if◌then◌else◌, true, false, Some, length, slice_set, OnOk, OnErr};
 ghost use Rattle.ak_core.specs.Layout.{Layout};
 ghost use Rattle.ak_core.specs.declared.moves.Move.TheVariants.{Ewb};
 ghost use Rattle.ak_model.specs.Control.LeafRows.{write_out_row};
 ghost use Rattle.ak_relation.specs.State.MachineState.{State};
 ghost use Rattle.ak_relation.specs.State.MachineView.{view_in};
 ghost use Rattle.ak_encls.specs.Answering.{answer_in, IsOutcome, KeepsRest};
+ghost use Rattle.ak_model.specs.Flat.Instructions.{number_at};
 ghost use Rattle.ak_epcm.specs.Entries.{entry_at, free_entry, is_of_page};
 ghost use Rattle.ak_sealed.specs.SealedPages.{sealed_page_at, sealed_page_of};
 ghost use Rattle.ak_encls.specs.Enclave.{frame_at};
 ghost use Rattle.ak_encls.specs.Paging.{IsPaging, LeadsTo};
-ghost use Rattle.ak_encls.specs.Sound.{is_slot, with_version};
+ghost use Rattle.ak_encls.specs.Sound.{is_slot};
 
 use crate::Encls;
 use ak_core::{Answer, Frame, Handle};
@@ -48,7 +49,12 @@ impl Encls {
         requires slot { is_slot (entry_at self.old.entries va.0) i ≡ true }
         ensures handle { result.0 ≡ length self.old.handles.sealed_pages }
         ensures entries { self.new.entries ≡ slice_set self.old.entries f.0 free_entry }
-        ensures frames { self.new.frames ≡ slice_set self.old.frames va.0 (with_version (frame_at self.old.frames va.0) i (Some (length self.old.handles.sealed_pages))) }
+        ensures slot { number_at (frame_at self.new.frames va.0) (8 * i) 8 ≡ length self.old.handles.sealed_pages + 1 }
+        ensures slots { (j : ℕ) → (j == i) ≡ false
+            → number_at (frame_at self.new.frames va.0) (8 * j) 8 ≡ number_at (frame_at self.old.frames va.0) (8 * j) 8 }
+        ensures others { (g : ℕ) → (g == va.0) ≡ false → frame_at self.new.frames g ≡ frame_at self.old.frames g }
+        ensures lengths { (g : ℕ) → length (frame_at self.new.frames g) ≡ length (frame_at self.old.frames g) }
+        ensures count { length self.new.frames ≡ length self.old.frames }
         ensures sealed_page { (k : ℕ) → sealed_page_at self.new.handles k
             ≡ (if k == length self.old.handles.sealed_pages then Some (sealed_page_of (entry_at self.old.entries f.0) (frame_at self.old.frames f.0)) else sealed_page_at self.old.handles k) }
         ensures next { length self.new.handles.sealed_pages ≡ length self.old.handles.sealed_pages + 1 }

@@ -73,7 +73,7 @@ module _ (layout : Layout) (old new : State) (f va : Frame) (i : ℕ) (w : Write
         steps_are = w.track ∙ h.tracking.steps_are;
         stamped = λ g s e. stamp_stands layout past old new f.0 va.0 i q h w is in_va g s (g == f.0) e;
       };
-      frames = record { whole = w.whole };
+      frames = record { whole = λ g. w.lengths g ∙ h.frames.whole g };
       one_copy = copies_after layout past old new f.0 va.0 i q h w is in_va (held layout past f.0) is;
     };
   }

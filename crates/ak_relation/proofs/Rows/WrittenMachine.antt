@@ -1,5 +1,5 @@
 -- The machine of the example after the area with its saved frame was blocked and written out.
-use Rattle.std.proofs.Common.{◌≡◌, ℕ, zero, suc, List, [], ◌∷◌, length, refl, arith}
+use Rattle.std.proofs.Common.{◌≡◌, ℕ, zero, suc, List, [], ◌∷◌, length, refl, sym, ◌∙◌, arith}
 use Rattle.std.proofs.lemmas.Bool.Decides.{nat_tests}
 use Rattle.std.specs.Prelude.{Bool, true, false, Some, None, ◌==◌, if◌then◌else◌}
 use Rattle.ak_core.specs.declared.page.Entry.{Entry}
@@ -111,7 +111,7 @@ writes = record {
   others = λ g no_area no_slots. rw no_slots refl;
   slot = second_slot;
   slots = λ j other lt. other_than_second j other;
-  whole = written_whole;
+  lengths = λ g. written_whole g ∙ sym (saved_whole g);
   sealed_page = λ j. refl;
   next = refl;
   table = refl;

@@ -12,7 +12,7 @@ pub record WritesOutTo (old new : State) (f va i : ℕ) : Type 0 where
   pub others : (g : ℕ) → (g == f) ≡ false → (g == va) ≡ false → new.frames g ≡ old.frames g
   pub slot : number_at (new.frames va) (8 * i) 8 ≡ old.next + 1
   pub slots : (j : ℕ) → (j == i) ≡ false → j < 512 → number_at (new.frames va) (8 * j) 8 ≡ number_at (old.frames va) (8 * j) 8
-  pub whole : (g : ℕ) → length (new.frames g) ≡ 4096
+  pub lengths : (g : ℕ) → length (new.frames g) ≡ length (old.frames g)
   pub sealed_page : (j : ℕ) →
       new.sealed_pages j ≡ (if j == old.next then Some (sealed_page_of (entry_at old.entries f) (old.frames f)) else old.sealed_pages j)
   pub next : new.next ≡ old.next + 1

@@ -1,4 +1,0 @@
-use Rattle.ak_encls.proofs.encls.Encls.ecreate.Goals as goal
-
-pub returns-clause-frames : goal.returns-clause-frames
-returns-clause-frames c = ?
