@@ -262,9 +262,9 @@ module _ (entries : List Entry) (frames : Frames) (stamps : List Stamp) (handles
       elim (after_write wa j) [
         | inl new ↦ inr new.2
         | inr same ↦ elim (before_write wa j) [
-            | inl old ↦ inl (same ∙ old)
-            | inr none ↦ inr (same ∙ none)
-          ]
+          | inl old ↦ inl (same ∙ old)
+          | inr none ↦ inr (same ∙ none)
+        ]
       ]
 
   emptied_slot : slot_in (set entries f entry) (set Frames' va slots) va i ≡ None
@@ -333,9 +333,9 @@ seal_sound entries frames stamps handles handles' sound distinct f va i entry by
           (λ wa j.
           elim (emptied entries (set frames va slots) (set frames va slots) f free_entry within (λ g away. refl) (λ k. refl) wa j) [
             | inl kept ↦ elim (rewritten_slot entries frames va i (version (Some (length handles.sealed_pages))) slots frame_in slot versioned others wa j) [
-                | inl new ↦ inl (new.0, new.1, kept ∙ new.2 ∙ handle_back (length handles.sealed_pages))
-                | inr old ↦ inr (inl (kept ∙ old))
-              ]
+              | inl new ↦ inl (new.0, new.1, kept ∙ new.2 ∙ handle_back (length handles.sealed_pages))
+              | inr old ↦ inr (inl (kept ∙ old))
+            ]
             | inr none ↦ inr (inr none)
           ])
           put next held (page_type entry.valid (is_addressed entry.kind) of_page).1

@@ -108,11 +108,19 @@ impl Encls {
         let start = CHUNK_SIZE * usize::from(chunk);
         let offset = offset_of(self.epcm.entry(f).page) + start as u64;
         let page = &self.frames[f.0 as usize];
-        self.measure.extend(offset, &page[start..start + CHUNK_SIZE]);
+        self.measure
+            .extend(offset, &page[start..start + CHUNK_SIZE]);
     }
 
     /// Adds a page and measures it whole: EADD, and EEXTEND of its 16 chunks.
-    pub fn add_page(&mut self, f: Frame, p: Page, kind: PageType, perm: Perm, bytes: &[u8; PAGE_SIZE])
+    pub fn add_page(
+        &mut self,
+        f: Frame,
+        p: Page,
+        kind: PageType,
+        perm: Perm,
+        bytes: &[u8; PAGE_SIZE],
+    )
         requires within { f.0 < length self.old.entries }
         requires free { (entry_at self.old.entries f.0).valid ≡ false }
         requires kind { is_addressed kind ≡ true }
@@ -132,7 +140,15 @@ impl Encls {
 
     /// Adds a regular page, measures it whole, and writes it out, as the build does with each page of the program: through a free
     /// frame, and into an empty slot of a VA page. Nobody entered yet. It gives the page's handle.
-    pub fn add_sealed_page(&mut self, f: Frame, p: Page, perm: Perm, bytes: &[u8; PAGE_SIZE], va: Frame, i: u16) -> Handle
+    pub fn add_sealed_page(
+        &mut self,
+        f: Frame,
+        p: Page,
+        perm: Perm,
+        bytes: &[u8; PAGE_SIZE],
+        va: Frame,
+        i: u16,
+    ) -> Handle
         requires within { f.0 < length self.old.entries }
         requires free { (entry_at self.old.entries f.0).valid ≡ false }
         requires no_frame { HasNoFrame self.old.entries p.0 }

@@ -63,7 +63,7 @@ impl Encls {
         ensures slots { (j : ℕ) → (j == i) ≡ false
             → number_at (frame_at self.new.frames va.0) (8 * j) 8 ≡ number_at (frame_at self.old.frames va.0) (8 * j) 8 }
         ensures others { (g : ℕ) → (g == f.0) ≡ false → (g == va.0) ≡ false → frame_at self.new.frames g ≡ frame_at self.old.frames g }
-        ensures lengths { (g : ℕ) → length (frame_at self.new.frames g) ≡ length (frame_at self.old.frames g) }
+        ensures lengths { (g : ℕ) → (g == f.0) ≡ false → length (frame_at self.new.frames g) ≡ length (frame_at self.old.frames g) }
         ensures count { length self.new.frames ≡ length self.old.frames }
         ensures stamp { (lps : ℕ) (steps : List TrackStep) → HoldsSteps self.old.track lps steps
             → StampOf (stamp_at self.new.stamps f.0) lps steps (length steps) }
