@@ -2,3 +2,4 @@ pub mod SlotChanges
 pub mod Versions
 pub mod Soundness
 pub mod Discarding
+pub mod Leading

@@ -192,7 +192,7 @@ module _ (entries : List Entry) (frames : Frames) (stamps : List Stamp) (handles
 
 -- ---- A VA page
 
-zero_value : (n k m : ℕ) → le_value (take n (drop k (replicate m 0))) ≡ 0
+pub zero_value : (n k m : ℕ) → le_value (take n (drop k (replicate m 0))) ≡ 0
 zero_value zero k m = refl
 zero_value (suc n) zero zero = refl
 zero_value (suc n) (suc k) zero = refl
@@ -208,7 +208,7 @@ blank_slot m i = ap (λ v. if is_slot va_entry i then handle_in v else None) (ze
 
 -- ---- A page is loaded
 
-some_in : (o : Option SealedPage) (blocked : Bool) (entry : Entry) → option_map (λ s. entry_of s blocked) o ≡ Some entry → (s : SealedPage) × ((o ≡ Some s) × (entry_of s blocked ≡ entry))
+pub some_in : (o : Option SealedPage) (blocked : Bool) (entry : Entry) → option_map (λ s. entry_of s blocked) o ≡ Some entry → (s : SealedPage) × ((o ≡ Some s) × (entry_of s blocked ≡ entry))
 some_in None blocked entry e = absurd (let wrong : None ≡ Some entry = e in cc)
 some_in (Some s) blocked entry e = (s, (refl, by e))
   where

@@ -45,6 +45,7 @@ impl Encls {
         requires free { (entry_at self.old.entries f.0).valid ≡ false }
         ensures entries { self.new.entries ≡ slice_set self.old.entries f.0 va_entry }
         ensures frames { self.new.frames ≡ slice_set self.old.frames f.0 (replicate (length (frame_at self.old.frames f.0)) 0) }
+        ensures each_frame { f.0 < length self.old.frames }
         ensures rest { self.new ≡ record self.old { entries = self.new.entries; frames = self.new.frames } }
     {
         fill_zeros(&mut self.frames[f.0 as usize]);
