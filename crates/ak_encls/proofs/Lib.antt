@@ -3,3 +3,4 @@ pub mod Versions
 pub mod Soundness
 pub mod Discarding
 pub mod Leading
+pub mod Rows

@@ -1,5 +1,5 @@
 // ELDU and ELDB.
-ghost use Rattle.std.specs.Prelude.{◌≡◌, ℕ, ◌*◌, ◌<◌, ◌==◌, false, List, Some, length, option_map, slice_set, IfOk, IfErr, OnOk, OnErr};
+ghost use Rattle.std.specs.Prelude.{◌≡◌, ℕ, ◌*◌, ◌<◌, ◌&&◌, ◌==◌, false, List, Some, length, option_map, slice_set, IfOk, IfErr, OnOk, OnErr};
 ghost use Rattle.ak_core.specs.Layout.{Layout};
 ghost use Rattle.ak_model.specs.Control.LeafRows.{load_row};
 ghost use Rattle.ak_model.specs.Kernels.Repeats.{is_done};
@@ -59,7 +59,7 @@ impl Encls {
         };
         match version {
             None => Err(Answer::SlotEmpty),
-            Some(version) if version == u64::from(h.0) && entry.page == p => Ok(entry),
+            Some(version) if is_of(version, h, entry, p) => Ok(entry),
             Some(_) => Err(Answer::MacFail),
         }
     }
@@ -95,4 +95,11 @@ impl Encls {
         self.stamps[f.0 as usize] = self.track.stamp();
         self.epcm.set(f, entry);
     }
+}
+
+// The version in a slot is that of the handle, and its page is the named one.
+fn is_of(version: u64, h: Handle, entry: Entry, p: Page) -> bool
+    ensures { result ≡ ((version == h.0) && (entry.page.0 == p.0)) }
+{
+    version == u64::from(h.0) && entry.page == p
 }
