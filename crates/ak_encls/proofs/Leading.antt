@@ -26,6 +26,12 @@ use Rattle.ak_encls.specs.Paging.{IsPaging, LeadsTo}
 use Rattle.ak_encls.proofs.SlotChanges.{frame_same, frame_other, entry_same, entry_other}
 use Rattle.ak_encls.proofs.Soundness.{some_in, zero_value}
 
+-- the entry of a sealed page may be a blocked one
+pub reblocked : (o : Option SealedPage) (entry : Entry) (blocked : Bool) → option_map (λ s. entry_of s false) o ≡ Some entry →
+    option_map (λ s. entry_of s blocked) o ≡ Some (record entry { blocked = blocked })
+reblocked None entry blocked e = absurd (let wrong : None ≡ Some entry = e in cc)
+reblocked (Some s) entry blocked e = ap (option_map (λ (x : Entry). record x { blocked = blocked })) e
+
 -- an entry that was set is not blocked, so that each blocked one is as it was
 still_blocked : (entries : List Entry) (f : ℕ) (entry : Entry) → f < length entries → entry.blocked ≡ false →
     (g : ℕ) (b : Bool) → (g == f) ≡ b → (entry_at (set entries f entry) g).blocked ≡ true → (entry_at entries g).blocked ≡ true

@@ -8,9 +8,9 @@ use Rattle.ak_core.specs.declared.page.Entry.{Entry}
 use Rattle.ak_core.specs.declared.page.PageType.{PageType}
 use Rattle.ak_core.specs.declared.page.PageType.TheVariants.{Secs, Tcs, Reg, Va}
 use Rattle.ak_core.specs.declared.moves.Answer.{Answer}
-use Rattle.ak_core.specs.declared.moves.Answer.TheVariants.{Ok, InUse, BadVa, NoHandle, SlotEmpty, MacFail, EnclaveActive}
+use Rattle.ak_core.specs.declared.moves.Answer.TheVariants.{Ok, OkHandle, InUse, BadVa, NotBlocked, NotTracked, SlotOccupied, NoHandle, SlotEmpty, MacFail, EnclaveActive}
 use Rattle.ak_epcm.specs.Entries.{entry_at}
-use Rattle.ak_model.specs.Control.LeafRows.{frame_row, has_slot, load_row, mac_row, remove_row, remove_by_row}
+use Rattle.ak_model.specs.Control.LeafRows.{frame_row, page_row, write_out_row, has_slot, load_row, mac_row, remove_row, remove_by_row}
 use Rattle.ak_model.specs.Flat.Instructions.{number_at}
 use Rattle.ak_model.specs.Paging.Holdings.{FreeFrame, PageFrame, is_free}
 use Rattle.ak_model.specs.Paging.Views.{View}
@@ -59,6 +59,19 @@ module _ (view : View) (f k p va i : ℕ) where
           load_row view f k p va i ≡ (if b then Ok else MacFail)
       load_version j page b live page_is some is =
           load_live live ∙ ap (λ o. mac_row view o k p) some ∙ ap (λ n. if (j == k) && (n == p) then Ok else MacFail) page_is ∙ ap (λ c. if c then Ok else MacFail) is
+
+-- ---- Write-outs
+
+module _ (view : View) (f va i : ℕ) where
+  -- the slot is refused
+  pub write_no_slot : (r : Answer) → ((answer : Answer) → page_row view f answer ≡ answer) → view.blocked f ≡ true → view.tracked f ≡ true →
+      ((answer : Answer) → (if has_slot view va i then answer else BadVa) ≡ r) → write_out_row view f va i ≡ r
+  write_no_slot r page blocked tracked row =
+      page _
+      ∙ ap (λ b. if not b then NotBlocked
+      else (if not (view.tracked f) then NotTracked else (if not (has_slot view va i) then BadVa else (if is_some (view.slot va i) then SlotOccupied else OkHandle (record { 0 = view.given }))))) blocked
+      ∙ ap (λ b. if not b then NotTracked else (if not (has_slot view va i) then BadVa else (if is_some (view.slot va i) then SlotOccupied else OkHandle (record { 0 = view.given })))) tracked
+      ∙ flip (has_slot view va i) BadVa _ ∙ row _
 
 -- ---- What the machine's view has of handles and slots
 
