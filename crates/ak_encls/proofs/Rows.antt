@@ -27,6 +27,11 @@ flip : (b : Bool) (x y : Answer) → (if not b then x else y) ≡ (if b then y e
 flip true x y = refl
 flip false x y = refl
 
+-- what is not refused holds
+pub true_from : (b : Bool) → not b ≡ false → b ≡ true
+true_from true e = refl
+true_from false e = absurd (cc)
+
 -- ---- Loads
 
 module _ (view : View) (f k p va i : ℕ) where
@@ -131,8 +136,4 @@ module _ (layout : Layout) (encls : Enclave) (state : State) (h : IsPaging layou
           (view_in layout state).held f ≡ PageFrame entry.page.0
       held_page f entry is valid kind =
           ap (λ l. held_in (entry_at l f)) h.entries ∙ ap held_in (sym is)
-          ∙ ap (λ b. if b then held_by entry.kind entry.page.0 else FreeFrame) (by entry.valid valid) ∙ page_type entry.kind entry.page.0 kind
-        where
-          by : (b : Bool) → not b ≡ false → b ≡ true
-          by true e = refl
-          by false e = absurd (cc)
+          ∙ ap (λ b. if b then held_by entry.kind entry.page.0 else FreeFrame) (true_from entry.valid valid) ∙ page_type entry.kind entry.page.0 kind

@@ -1,4 +1,4 @@
-use Rattle.std.proofs.Common.{◌≡◌, ◌+◌, ◌≤◌, ℕ, length, ap, sym, ◌∙◌, subst, refl}
+use Rattle.std.proofs.Common.{◌≡◌, ◌+◌, ◌≤◌, length, ap, subst, arith}
 use Rattle.ak_encls.specs.Answering.{answer_in, given_by}
 use Rattle.ak_encls.specs.Enclave.{Enclave}
 use Rattle.ak_encls.proofs.encls.Encls.begin_cycle.Goals as goal
@@ -16,9 +16,7 @@ returns-clause-rest c = record {
   frames = ap (λ (e : Enclave). length e.frames) c.self.view_is;
   entries = ap (λ (e : Enclave). length e.entries) c.self.view_is;
   measure = ap (λ (e : Enclave). e.measure) c.self.view_is;
-  spare = ap (λ n. c.self.inside.sealed.spare + n) (none_given c) ∙ ap (λ (e : Enclave). e.handles.spare) c.self.view_is;
-  given =
-      ap (λ (e : Enclave). length e.handles.sealed_pages) c.self.view_is
-      ∙ sym (ap (λ n. length c.args.self.now.handles.sealed_pages + n) (none_given c));
+  spare = (let none = none_given c in let same = ap (λ (e : Enclave). e.handles.spare) c.self.view_is in omega arith);
+  given = (let none = none_given c in let same = ap (λ (e : Enclave). length e.handles.sealed_pages) c.self.view_is in omega arith);
   cycles = subst (λ (e : Enclave). c.cycle.new.self.cycles ≤ e.track.cycles + 1) c.self.view_is c.cycle.ensures.most;
 }
