@@ -5,13 +5,17 @@ use Rattle.std.specs.Option.{option_map}
 use Rattle.std.proofs.lemmas.Bool.{false≢true, ltb-true}
 use Rattle.std.proofs.lemmas.Bool.Decides.{eqb_tells}
 use Rattle.ak_core.specs.declared.page.Entry.{Entry}
+use Rattle.ak_core.specs.declared.page.Page.{Page}
+use Rattle.ak_core.specs.declared.page.PageType.{PageType}
+use Rattle.ak_core.specs.declared.page.PageType.TheVariants.{Secs, Tcs, Reg, Va}
+use Rattle.ak_core.specs.declared.page.Perm.{Perm}
 use Rattle.ak_epcm.specs.Entries.{free_entry, entry_at, is_addressed, is_of_page, has_page, HasNoFrame, HasDistinctPages}
 use Rattle.ak_model.specs.Flat.Instructions.{le_value, number_at}
 use Rattle.ak_sealed.specs.SealedPages.{SealedPage, Handles, sealed_page_of, entry_of, sealed_page_at, version, handle_in}
 use Rattle.ak_track.specs.declared.track.Stamp.{Stamp}
 use Rattle.ak_encls.specs.Enclave.{frame_at}
 use Rattle.ak_encls.specs.Sound.{is_va_type, is_slot, slot_by, slot_in, sealed_in, page_in, AreVersions, IsSound}
-use Rattle.ak_encls.specs.Building.{va_entry, IsNotSealed}
+use Rattle.ak_encls.specs.Building.{va_entry, added_entry, IsNotSealed}
 use Rattle.ak_encls.proofs.SlotChanges.{frame_same, frame_other, entry_same, entry_other, valid_within, page_no_slot, emptied, rewritten, blocked_slot, rewritten_slot}
 use Rattle.ak_encls.proofs.Versions.{fewer, page_was, written}
 
@@ -189,6 +193,19 @@ module _ (entries : List Entry) (frames : Frames) (stamps : List Stamp) (handles
   add_sound f entry bytes within page fresh =
       set_sound f entry bytes within (λ i. page_no_slot entry bytes i page)
       (λ va i p e. other_page entry p (not_sealed (slot_in (set entries f entry) (set frames f bytes)) entry.page.0 fresh va i p e))
+
+-- an added page is one of the enclave, and the named one
+pub added_of_page : (p : Page) (kind : PageType) (perm : Perm) → is_addressed kind ≡ true → is_of_page (added_entry p kind perm) ≡ true
+added_of_page p Reg perm e = refl
+added_of_page p Tcs perm e = refl
+added_of_page p Secs perm e = absurd (cc)
+added_of_page p Va perm e = absurd (cc)
+
+pub added_page : (p : Page) (kind : PageType) (perm : Perm) → (added_entry p kind perm).page.0 ≡ p.0
+added_page p Reg perm = refl
+added_page p Tcs perm = refl
+added_page p Secs perm = refl
+added_page p Va perm = refl
 
 -- ---- A VA page
 
