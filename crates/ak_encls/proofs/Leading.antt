@@ -200,7 +200,7 @@ module _ (layout : Layout) (old new : Enclave) (state : State) (h : IsPaging lay
       (others : (g : ℕ) → (g == va.0) ≡ false → frame_at new.frames g ≡ frame_at old.frames g)
       (lengths : (g : ℕ) → length (frame_at new.frames g) ≡ length (frame_at old.frames g))
       (put : (k : ℕ) → sealed_page_at new.handles k
-          ≡ (if k == length old.handles.sealed_pages then Some (sealed_page_of (entry_at old.entries f.0) (frame_at old.frames f.0)) else sealed_page_at old.handles k))
+      ≡ (if k == length old.handles.sealed_pages then Some (sealed_page_of (entry_at old.entries f.0) (frame_at old.frames f.0)) else sealed_page_at old.handles k))
       (next : length new.handles.sealed_pages ≡ length old.handles.sealed_pages + 1)
       (rest : new ≡ record old { entries = new.entries; frames = new.frames; handles = new.handles }) where
     sealed_is : sealed_page_of (entry_at old.entries f.0) (frame_at old.frames f.0) ≡ sealed_page_of (entry_at state.entries f.0) (state.frames f.0)

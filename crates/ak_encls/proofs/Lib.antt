@@ -4,3 +4,4 @@ pub mod Soundness
 pub mod Discarding
 pub mod Leading
 pub mod Rows
+pub mod Alone
