@@ -124,6 +124,7 @@ impl Encls {
         requires not_sealed { IsNotSealed self.old.handles p.0 }
         ensures entries { self.new.entries ≡ slice_set self.old.entries f.0 (added_entry p kind perm) }
         ensures frames { self.new.frames ≡ slice_set self.old.frames f.0 bytes.now }
+        ensures in_frames { f.0 < length self.old.frames }
         ensures measure { (absorbed : List ℕ) → HasAbsorbed self.old.measure absorbed
             → HasAbsorbed self.new.measure (absorbed ++ page_blocks (4096 * p.0) (flags_of kind perm) bytes.now) }
         ensures rest { self.new ≡ record self.old { entries = self.new.entries; frames = self.new.frames; measure = self.new.measure } }
