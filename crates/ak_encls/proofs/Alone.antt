@@ -1,11 +1,9 @@
 -- Tracking while nobody has entered: each cycle is over at once.
-use Rattle.std.proofs.Common.{◌≡◌, ℕ, zero, suc, ◌+◌, Bool, true, false, ◌==◌, List, [], ◌∷◌, length, replicate, refl, ap, sym, ◌∙◌, subst, add-one, arith}
+use Rattle.std.proofs.Common.{◌≡◌, ℕ, zero, suc, ◌+◌, Bool, true, false, ◌==◌, [], ◌∷◌, length, replicate, refl, ap, ◌∙◌}
 use Rattle.std.specs.Prelude.{not, filter, cond}
 use Rattle.std.specs.List.{range_with_len}
 use Rattle.ak_model.specs.Paging.Tracking.{last_is_over}
-use Rattle.ak_track.specs.Steps.{TrackStep, Cycled, inside_by, cycles_by, incomplete_by}
-use Rattle.ak_track.specs.Tracking.{Marks, HoldsSteps}
-use Rattle.ak_encls.specs.Building.{HasOnlyCycled}
+use Rattle.ak_track.specs.Steps.{Cycled, inside_by, cycles_by, incomplete_by}
 
 nobody : (n lp : ℕ) → inside_by (replicate n Cycled) lp ≡ false
 nobody zero lp = refl

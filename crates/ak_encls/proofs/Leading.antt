@@ -1,5 +1,5 @@
 -- What each leaf does to an enclave leads from each machine of which this was the paging part to one of which it is.
-use Rattle.std.proofs.Common.{◌≡◌, ◌≢◌, inl, inr, ℕ, ◌+◌, ◌*◌, ◌<◌, Bool, true, false, ◌==◌, if◌then◌else◌, List, ◌∷◌, length, set, replicate, refl, ap, sym, ◌∙◌, subst, length-set, get_or-set_other}
+use Rattle.std.proofs.Common.{◌≡◌, ◌≢◌, ℕ, ◌+◌, ◌*◌, ◌<◌, Bool, true, false, ◌==◌, if◌then◌else◌, List, length, set, replicate, refl, ap, sym, ◌∙◌, subst, length-set, get_or-set_other}
 use Rattle.std.proofs.lemmas.List.{length-replicate}
 use Rattle.std.specs.Prelude.{Option, Some, None}
 use Rattle.std.specs.Option.{option_map}
@@ -9,13 +9,12 @@ use Rattle.ak_core.specs.declared.page.Entry.{Entry}
 use Rattle.ak_core.specs.declared.page.Frame.{Frame}
 use Rattle.ak_core.specs.declared.page.Handle.{Handle}
 use Rattle.ak_core.specs.declared.page.Page.{Page}
-use Rattle.ak_core.specs.declared.moves.Move.TheVariants.{Eblock, Etrack, Ewb, Eldu, Eldb, Eremove, Epa, Discard}
+use Rattle.ak_core.specs.declared.moves.Move.TheVariants.{Eblock, Ewb, Eremove, Epa, Discard}
 use Rattle.ak_epcm.specs.Entries.{free_entry, entry_at}
 use Rattle.ak_model.specs.Flat.Instructions.{number_at}
 use Rattle.ak_sealed.specs.SealedPages.{SealedPage, sealed_page_of, entry_of, sealed_page_at}
 use Rattle.ak_track.specs.Steps.{TrackStep}
 use Rattle.ak_track.specs.Tracking.{HoldsSteps, StampOf}
-use Rattle.ak_track.specs.declared.track.Stamp.{Stamp}
 use Rattle.ak_relation.specs.State.MachineState.{State}
 use Rattle.ak_relation.specs.State.TableChanges.{FreesEntry, with_block, with_entries, without_sealed_page}
 use Rattle.ak_relation.specs.Premises.Loading.{LoadsFrom}

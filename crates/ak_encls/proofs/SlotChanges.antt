@@ -1,7 +1,7 @@
 -- What slots hold after an entry or the bytes of a frame changed.
 use Rattle.std.proofs.Common.{◌≡◌, ◌≢◌, ◌⊎◌, inl, inr, ℕ, zero, suc, ◌*◌, ◌<◌, Bool, true, false, ◌&&◌, ◌==◌, if◌then◌else◌, List, [], ◌∷◌, length, get_or, set, arith, refl, ap, sym, ◌∙◌, get_or-set_same, get_or-set_other}
-use Rattle.std.specs.Prelude.{nat_lt, Option, None}
-use Rattle.std.proofs.lemmas.Bool.{eqb-false, cases_lt, false≢true}
+use Rattle.std.specs.Prelude.{nat_lt, None}
+use Rattle.std.proofs.lemmas.Bool.{cases_lt, false≢true}
 use Rattle.std.proofs.lemmas.Bool.Decides.{eqb_tells}
 use Rattle.std.proofs.Math.ListN.{get_or-eq_default}
 use Rattle.ak_core.specs.declared.page.Entry.{Entry}

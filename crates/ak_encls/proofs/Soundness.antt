@@ -1,5 +1,5 @@
 -- Each change keeps an enclave sound.
-use Rattle.std.proofs.Common.{◌≡◌, ◌≢◌, ◌⊎◌, inl, inr, ℕ, zero, suc, ◌+◌, ◌-◌, ◌*◌, ◌<◌, ◌≤◌, Bool, true, false, ◌&&◌, ◌==◌, if◌then◌else◌, List, [], ◌∷◌, length, set, take, drop, replicate, refl, ap, sym, ◌∙◌, subst, arith, length-set}
+use Rattle.std.proofs.Common.{◌≡◌, ◌≢◌, ◌⊎◌, inl, inr, ℕ, zero, suc, ◌+◌, ◌-◌, ◌*◌, ◌<◌, Bool, true, false, ◌&&◌, ◌==◌, if◌then◌else◌, List, length, set, take, drop, replicate, refl, ap, sym, ◌∙◌, subst, arith, length-set}
 use Rattle.std.specs.Prelude.{nat_lt, Option, Some, None}
 use Rattle.std.specs.Option.{option_map}
 use Rattle.std.proofs.lemmas.Bool.{false≢true, ltb-true}
@@ -14,7 +14,7 @@ use Rattle.ak_model.specs.Flat.Instructions.{le_value, number_at}
 use Rattle.ak_sealed.specs.SealedPages.{SealedPage, Handles, sealed_page_of, entry_of, sealed_page_at, version, handle_in}
 use Rattle.ak_track.specs.declared.track.Stamp.{Stamp}
 use Rattle.ak_encls.specs.Enclave.{frame_at}
-use Rattle.ak_encls.specs.Sound.{is_va_type, is_slot, slot_by, slot_in, sealed_in, page_in, AreVersions, IsSound}
+use Rattle.ak_encls.specs.Sound.{is_va_type, is_slot, slot_by, slot_in, sealed_in, page_in, IsSound}
 use Rattle.ak_encls.specs.Building.{va_entry, added_entry, IsNotSealed}
 use Rattle.ak_encls.proofs.SlotChanges.{frame_same, frame_other, entry_same, entry_other, valid_within, page_no_slot, emptied, rewritten, blocked_slot, rewritten_slot}
 use Rattle.ak_encls.proofs.Versions.{fewer, page_was, written}

@@ -1,7 +1,6 @@
-use Rattle.std.proofs.Common.{◌≡◌, ◌++◌, ◌*◌, ℕ, ◌==◌, if◌then◌else◌, List, length, set, ap, sym, ◌∙◌, subst}
+use Rattle.std.proofs.Common.{◌≡◌, ◌++◌, ◌*◌, ◌==◌, if◌then◌else◌, set, ap, sym, ◌∙◌, subst}
 use Rattle.std.specs.Prelude.{Some}
 use Rattle.std.proofs.lemmas.List.{set-set}
-use Rattle.ak_core.specs.declared.page.Entry.{Entry}
 use Rattle.ak_core.specs.declared.page.PageType.TheVariants.{Reg}
 use Rattle.ak_epcm.specs.Entries.{free_entry, entry_at}
 use Rattle.ak_measure.specs.Absorbed.{HasAbsorbed}

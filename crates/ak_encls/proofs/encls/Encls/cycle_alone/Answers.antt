@@ -1,7 +1,6 @@
-use Rattle.std.proofs.Common.{◌≡◌, ◌+◌, ◌<◌, ◌^◌, length, replicate, ap, sym, ◌∙◌, subst, arith}
+use Rattle.std.proofs.Common.{replicate, sym, ◌∙◌, subst}
 use Rattle.std.proofs.lemmas.Bool.{false≢true}
-use Rattle.ak_track.specs.Steps.{Cycled, cycles_by}
-use Rattle.ak_track.specs.Tracking.{Marks}
+use Rattle.ak_track.specs.Steps.{Cycled}
 use Rattle.ak_encls.specs.Building.{HasOnlyCycled}
 use Rattle.ak_encls.specs.Enclave.{Enclave}
 use Rattle.ak_encls.proofs.Alone.{complete_alone}

@@ -1,4 +1,4 @@
-use Rattle.std.proofs.Common.{◌≡◌, ◌≢◌, ◌<◌, ◌*◌, ℕ, true, false, List, length, set, ap, sym, ◌∙◌, subst, arith, length-set}
+use Rattle.std.proofs.Common.{◌≡◌, ◌≢◌, ◌<◌, ◌*◌, true, false, List, length, set, ap, sym, ◌∙◌, subst, arith, length-set}
 use Rattle.std.specs.Prelude.{Some, option_map}
 use Rattle.std.proofs.lemmas.Bool.{eqb-false}
 use Rattle.ak_core.specs.declared.page.Entry.{Entry}

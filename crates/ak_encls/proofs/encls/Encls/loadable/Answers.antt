@@ -1,5 +1,4 @@
-use Rattle.std.proofs.Common.{◌≡◌, true, false, ap, sym, ◌∙◌}
-use Rattle.std.specs.Prelude.{None, Some}
+use Rattle.std.proofs.Common.{true, false, sym, ◌∙◌}
 use Rattle.std.proofs.lemmas.Result.{err_from_is_err_and}
 use Rattle.ak_relation.specs.State.MachineView.{view_in}
 use Rattle.ak_encls.proofs.Rows.{load_refused, load_no_slot, load_no_handle, load_empty, load_version, is_dead, is_live, its_page, slot_is}

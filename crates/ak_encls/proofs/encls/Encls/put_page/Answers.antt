@@ -1,4 +1,4 @@
-use Rattle.std.proofs.Common.{◌≡◌, ◌<◌, List, length, set, sym, subst}
+use Rattle.std.proofs.Common.{◌<◌, List, length, set, sym, subst}
 use Rattle.ak_core.specs.declared.page.Entry.{Entry}
 use Rattle.ak_encls.specs.Building.{IsNotSealed}
 use Rattle.ak_encls.specs.Enclave.{Enclave}

@@ -1,5 +1,4 @@
-use Rattle.std.proofs.Common.{◌≡◌, ◌<◌, ℕ, false, List, length, set, ap, sym, ◌∙◌, subst, refl}
-use Rattle.std.specs.Prelude.{None}
+use Rattle.std.proofs.Common.{◌<◌, List, length, set, ap, sym, ◌∙◌, subst, refl}
 use Rattle.ak_core.specs.declared.page.Entry.{Entry}
 use Rattle.ak_encls.specs.Building.{va_entry}
 use Rattle.ak_encls.specs.Enclave.{Enclave}
