@@ -4,3 +4,4 @@ pub mod Does
 pub mod TurnByTurn
 pub mod MoveByMove
 pub mod Example
+pub mod Witnesses

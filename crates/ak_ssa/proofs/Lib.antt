@@ -1,3 +1,6 @@
 pub mod RegistersReturn
 pub mod FramesReturn
 pub mod Room
+pub mod Words
+pub mod Parts
+pub mod Reading

@@ -1,11 +1,13 @@
 -- The registers in a saved frame's bytes are those of the frame.
 use Rattle.std.proofs.Common.{◌≡◌, ℕ, zero, suc, ◌+◌, ◌*◌, ◌<◌, List, [], ◌∷◌, ◌++◌, length, drop, refl, ap, ◌∙◌, subst, arith}
 use Rattle.std.proofs.Math.Nat.{mod-add-div, div-lt_iff_lt-mul}
-use Rattle.std.specs.Prelude.{Bool, true, false, ◌^◌, ◌/◌, ◌%◌, take, flat_map, replicate}
+use Rattle.std.specs.Prelude.{Bool, true, false, ◌^◌, ◌/◌, ◌%◌, take, flat_map}
 use Rattle.ak_core.specs.Layout.{Layout}
 use Rattle.ak_core.specs.declared.registers.Mode.{Mode}
+use Rattle.ak_core.specs.declared.registers.Regs.{Regs}
 use Rattle.ak_model.specs.Flat.Instructions.{le_bytes, le_value}
-use Rattle.ak_ssa.specs.SavedFrames.{SavedFrame, exit_info, bit_if, flags_number, mode_number, frame_bytes, area_place, HasFrame}
+use Rattle.ak_ssa.specs.declared.cause.Why.{Why}
+use Rattle.ak_ssa.specs.SavedFrames.{SavedFrame, bit_if, mode_number, tail_bytes, saved_bytes, why_of, area_place, HasFrame}
 use Rattle.ak_ssa.specs.SavedRegisters.{AreWords, AreRegs, words_in, after_words, flag_in, mode_in, regs_by, regs_in, area_regs}
 
 -- a number that fits so many bytes comes back from them
@@ -48,32 +50,27 @@ mode_back : (mode : Mode) → mode_in (mode_number mode + 256 * 0) ≡ mode
 mode_back Mode.Program = refl
 mode_back Mode.Runtime = refl
 
--- what follows the sixteen registers in a frame
-abbrev pub tail_of : SavedFrame → List ℕ
-tail_of frame =
-    le_bytes 8 (flags_number frame.regs) ++ (le_bytes 8 frame.regs.rip
-    ++ (replicate 16 0 ++ (le_bytes 4 (exit_info frame.cause) ++ (mode_number frame.regs.mode ∷ replicate 19 0))))
+pub parts : (regs : Regs) (why : Why) → drop 16 (saved_bytes regs why) ≡ flat_map (le_bytes 8) regs.gpr ++ tail_bytes regs why
+unfolding saved_bytes
+parts regs why = refl
 
-pub parts : (layout : Layout) (frame : SavedFrame) → drop 16 (frame_bytes layout frame) ≡ flat_map (le_bytes 8) frame.regs.gpr ++ tail_of frame
-unfolding frame_bytes
-parts layout frame = refl
-
-tail_back : (frame : SavedFrame) → AreRegs frame.regs → regs_by frame.regs.gpr (tail_of frame) ≡ frame.regs
-tail_back frame whole =
-    let f = flags_back frame.regs.cf frame.regs.zf frame.regs.sf frame.regs.of in
-    let r : le_value (take 8 (drop 8 (tail_of frame))) ≡ frame.regs.rip = value_back 8 frame.regs.rip whole.rip in
-    let m : mode_in (le_value (take 1 (drop 36 (tail_of frame)))) ≡ frame.regs.mode = mode_back frame.regs.mode in
+tail_back : (regs : Regs) (why : Why) → AreRegs regs → regs_by regs.gpr (tail_bytes regs why) ≡ regs
+tail_back regs why whole =
+    let f = flags_back regs.cf regs.zf regs.sf regs.of in
+    let r : le_value (take 8 (drop 8 (tail_bytes regs why))) ≡ regs.rip = value_back 8 regs.rip whole.rip in
+    let m : mode_in (le_value (take 1 (drop 36 (tail_bytes regs why)))) ≡ regs.mode = mode_back regs.mode in
     rw (r, m, f.0, f.1, f.2, f.3) refl
 
 -- the registers in a frame's bytes
-pub regs_back : (layout : Layout) (frame : SavedFrame) → AreRegs frame.regs → regs_in (frame_bytes layout frame) ≡ frame.regs
-regs_back layout frame whole =
-    ap (λ bytes. regs_by (words_in 16 bytes) (after_words 16 bytes)) (parts layout frame)
-    ∙ ap (λ gpr. regs_by gpr (after_words 16 (flat_map (le_bytes 8) frame.regs.gpr ++ tail_of frame)))
-    (subst (λ n. words_in n (flat_map (le_bytes 8) frame.regs.gpr ++ tail_of frame) ≡ frame.regs.gpr) whole.sixteen (words_back frame.regs.gpr (tail_of frame) whole.words))
-    ∙ ap (regs_by frame.regs.gpr) (subst (λ n. after_words n (flat_map (le_bytes 8) frame.regs.gpr ++ tail_of frame) ≡ tail_of frame) whole.sixteen (past_words frame.regs.gpr (tail_of frame)))
-    ∙ tail_back frame whole
+pub regs_back : (regs : Regs) (why : Why) → AreRegs regs → regs_in (saved_bytes regs why) ≡ regs
+regs_back regs why whole =
+    let gpr = flat_map (le_bytes 8) regs.gpr in
+    let tail = tail_bytes regs why in
+    ap (λ bytes. regs_by (words_in 16 bytes) (after_words 16 bytes)) (parts regs why)
+    ∙ ap (λ words. regs_by words (after_words 16 (gpr ++ tail))) (subst (λ n. words_in n (gpr ++ tail) ≡ regs.gpr) whole.sixteen (words_back regs.gpr tail whole.words))
+    ∙ ap (regs_by regs.gpr) (subst (λ n. after_words n (gpr ++ tail) ≡ tail) whole.sixteen (past_words regs.gpr tail))
+    ∙ tail_back regs why whole
 
 -- the registers that an area with this frame holds
 pub area_back : (layout : Layout) (bytes : List ℕ) (frame : SavedFrame) → AreRegs frame.regs → HasFrame layout area_place bytes frame → area_regs bytes ≡ frame.regs
-area_back layout bytes frame whole stored = ap regs_in stored ∙ regs_back layout frame whole
+area_back layout bytes frame whole stored = ap regs_in stored ∙ regs_back frame.regs (why_of layout frame.cause) whole

@@ -3,8 +3,16 @@
 use Rattle.std.specs.Prelude.{◌+◌, ◌*◌, ◌^◌, ◌<◌}
 use Rattle.ak_core.specs.Layout.{Layout}
 use Rattle.ak_model.specs.Paging.Pages.{all_pages}
+use Rattle.ak_ssa.specs.declared.cause.Why.{Why}
+use Rattle.ak_ssa.specs.declared.cause.Why.TheVariants.{Interrupt, Vector, PageFault}
 use Rattle.ak_ssa.specs.SavedFrames.{SavedCause, NoCause, ByVector, ByPage, SavedFrame}
 use Rattle.ak_ssa.specs.SavedRegisters.{AreRegs}
+
+-- a vector of 8 bits, or an address of 64
+abbrev pub WhyFits : Why → Type 0
+WhyFits Interrupt = Unit {0}
+WhyFits (Vector v) = v < 256
+WhyFits (PageFault address kind) = address < 2 ^ 64
 
 -- a vector of 8 bits, or a page of the enclave
 abbrev pub CauseFits : Layout → SavedCause → Type 0

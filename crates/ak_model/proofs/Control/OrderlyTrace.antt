@@ -3,7 +3,7 @@ use Rattle.std.proofs.Common.{◌≡◌, ◌⊎◌, inl, inr, ℕ, zero, suc, Li
 use Rattle.std.specs.Prelude.{Bool, true, false, All, filter_map, if◌then◌else◌, Option, Some, None, nat_lt}
 use Rattle.std.proofs.lemmas.Bool.{ltb-true}
 use Rattle.std.proofs.lemmas.List.{reverse-append}
-use Rattle.std.proofs.lemmas.List.Elements.{All-nil, All-cons, All-head, All-tail, All-push, All-same, All-append, All-map, All-weaker}
+use Rattle.std.proofs.lemmas.List.Elements.{All-nil, All-cons, All-append, All-map, All-weaker}
 use Rattle.ak_core.specs.Layout.{Layout}
 use Rattle.ak_core.specs.declared.moves.Exit.TheVariants.{Still}
 use Rattle.ak_core.specs.declared.event.Event.{Event}
@@ -23,6 +23,7 @@ use Rattle.ak_model.specs.Clusters.Queue.{queue_after}
 use Rattle.ak_model.specs.Laws.Orderly.{IsOrderly, TurnIsOrderly, after_event, after_turn, OrderlyAfter, KeepsLaws}
 use Rattle.ak_model.proofs.Clusters.FewestLeave.{queue_after-more}
 use Rattle.ak_model.proofs.Paging.InsideIsOfLayout.{placed}
+use Rattle.ak_model.proofs.Paging.Tests.{All-reverse}
 use Rattle.ak_model.proofs.Paging.SomeoneInside.{is_someone}
 use Rattle.ak_model.proofs.Paging.Readings.{reading, someone_then}
 use Rattle.ak_model.proofs.Control.MovedTo.{each_move}
@@ -126,10 +127,6 @@ module _ (layout : Layout) where
         step_fits (program_turns layout tape moves) (trace layout tape moves) m (λ lp. placed layout lp tape moves) (trace_fits tape moves start)
 
     -- ---- Moments before turns
-
-    All-reverse : {A : Type 0} (P : A → Type 0) (xs : List A) → All P xs → All P (reverse xs)
-    All-reverse P [] h = All-nil P
-    All-reverse P (x ∷ xs) h = All-same P (reverse (x ∷ xs)) (reverse xs ++ x ∷ []) (reverse-append (x ∷ []) xs) (All-push P (reverse xs) x (All-reverse P xs (All-tail P x xs h)) (All-head P x xs h))
 
     turns_by : (older : List ProgramTurn) (moment : Moment) (lp n : ℕ) (within : Bool) → (within ≡ true → someone_inside layout moment.past ≡ true) → OrderlyAfter layout older moment → All (KeepsLaws layout) (if within then map (λ control. record moment { control = control }) (reverse (before_turns layout moment.past n moment.control)) else [])
     turns_by older moment lp n false someone old = All-nil (KeepsLaws layout)

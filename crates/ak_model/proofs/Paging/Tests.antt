@@ -1,9 +1,10 @@
 -- What tests say of each other: a conditional either way, implications, and tests of a range and of a list.
 use Rattle.std.proofs.Common.{◌≡◌, ℕ, zero, suc, ◌+◌, ◌<◌, ◌≤◌, List, [], ◌∷◌, ◌++◌, reverse, arith, refl, sym, ◌∙◌, subst}
-use Rattle.std.specs.Prelude.{Bool, true, false, not, ◌&&◌, ◌||◌, if◌then◌else◌, ◌==◌}
+use Rattle.std.specs.Prelude.{All, Bool, true, false, not, ◌&&◌, ◌||◌, filter, if◌then◌else◌, ◌==◌}
 use Rattle.std.specs.List.{range_with_len, list_any, list_all}
 use Rattle.std.proofs.lemmas.Bool.{and_parts, or_left, or_right, eqb-true, eqb-false}
 use Rattle.std.proofs.lemmas.List.{reverse-append}
+use Rattle.std.proofs.lemmas.List.Elements.{All-nil, All-head, All-tail, All-push, All-same}
 use Rattle.std.proofs.lemmas.List.Folds.{list_all-append}
 
 -- what holds of both holds of either
@@ -37,6 +38,17 @@ pub all_in_range : (test : ℕ → Bool) (n a x : ℕ) → a ≤ x → x < a + n
 all_in_range test zero a x low high all = absurd (omega arith)
 all_in_range test (suc n) a x low high all =
     all_by test a x (range_with_len (a + 1) n) (a == x) refl all (λ ne rest. all_in_range test n (a + 1) x (omega arith) (omega arith) rest)
+
+-- where nothing passes, a filter keeps nothing
+pub filter_none : (test : ℕ → Bool) (xs : List ℕ) → ((x : ℕ) → test x ≡ false) → filter test xs ≡ []
+filter_none test [] h = refl
+filter_none test (x ∷ xs) h = let e = h x in rw e (filter_none test xs h)
+
+-- what holds of all holds of all in reverse
+pub All-reverse : {A : Type 0} (P : A → Type 0) (xs : List A) → All P xs → All P (reverse xs)
+All-reverse P [] h = All-nil P
+All-reverse P (x ∷ xs) h =
+    All-same P (reverse (x ∷ xs)) (reverse xs ++ x ∷ []) (reverse-append (x ∷ []) xs) (All-push P (reverse xs) x (All-reverse P xs (All-tail P x xs h)) (All-head P x xs h))
 
 pub all_of_reverse : {A : Type 0} (test : A → Bool) (xs : List A) → list_all test (reverse xs) ≡ true → list_all test xs ≡ true
 all_of_reverse test [] h = refl

@@ -19,9 +19,8 @@ use Rattle.ak_relation.specs.State.TrackSteps.{steps_of, stamp_of}
 use Rattle.ak_relation.specs.State.MachineState.{State, copy}
 use Rattle.ak_model.specs.Flat.Instructions.{number_at}
 use Rattle.ak_track.specs.Steps.{Cycled}
-use Rattle.ak_sealed.specs.SealedPages.{SealedPage, version}
+use Rattle.ak_sealed.specs.SealedPages.{SealedPage, version, entry_of}
 use Rattle.ak_relation.specs.State.Tables.{IsSealedPageOf, SealedPageAgrees, TablesStand}
-use Rattle.ak_sealed.specs.SealedPages.{entry_of}
 use Rattle.ak_relation.specs.Premises.Loading.{LoadsFrom}
 
 -- what the row of a load tells

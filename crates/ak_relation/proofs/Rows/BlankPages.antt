@@ -132,3 +132,19 @@ refused_saved = refl
 pub refused_flag : number_at one_refused 72 1 ≡ 1
 unfolding one_refused
 refused_flag = refl
+
+-- a TCS with two contexts saved, that refuses to be resumed
+unfoldable pub two_refused : List ℕ
+two_refused = replicate 24 0 ++ (2 ∷ replicate 47 0 ++ (1 ∷ replicate 4023 0))
+
+pub two_refused_whole : length two_refused ≡ 4096
+unfolding two_refused
+two_refused_whole = ap (λ n. 73 + n) (length-replicate {A = ℕ} 4023 0)
+
+pub two_refused_saved : number_at two_refused 24 4 ≡ 2
+unfolding two_refused
+two_refused_saved = refl
+
+pub two_refused_flag : number_at two_refused 72 1 ≡ 1
+unfolding two_refused
+two_refused_flag = refl

@@ -1,9 +1,9 @@
 -- The machine of the example after its build.
-use Rattle.std.proofs.Common.{◌≡◌, ℕ, zero, suc, ◌*◌, ◌<◌, List, [], ◌∷◌, length, refl, sym, ◌∙◌, subst, arith}
+use Rattle.std.proofs.Common.{◌≡◌, ℕ, zero, suc, ◌+◌, ◌*◌, ◌<◌, List, [], ◌∷◌, ◌++◌, length, take, refl, ap, sym, ◌∙◌, subst, arith}
 use Rattle.std.proofs.lemmas.Bool.Decides.{nat_tests}
 use Rattle.std.proofs.lemmas.List.{length-replicate, take_all}
-use Rattle.std.proofs.lemmas.List.Elements.{All-replicate}
-use Rattle.std.specs.Prelude.{Bool, true, false, nat_lt, Option, Some, None, ◌==◌, if◌then◌else◌}
+use Rattle.std.proofs.lemmas.List.Elements.{All-cons, All-replicate}
+use Rattle.std.specs.Prelude.{Bool, true, false, ◌&&◌, nat_lt, replicate, Option, Some, None, ◌==◌, if◌then◌else◌}
 use Rattle.ak_core.specs.Layout.{IsValid, enclave_size}
 use Rattle.ak_core.specs.declared.page.Entry.{Entry}
 use Rattle.ak_core.specs.declared.page.PageType.{PageType}
@@ -25,7 +25,7 @@ use Rattle.ak_sealed.specs.SealedPages.{SealedPage, version}
 use Rattle.ak_relation.specs.State.Tables.{SealedPageAgrees, TablesStand}
 use Rattle.ak_relation.specs.Premises.Built.{first_state, IsBuilt}
 use Rattle.ak_relation.specs.Relation.Stands.{copies_at}
-use Rattle.ak_relation.specs.Relation.Example.{one_page, no_operations, built_past, IsReached}
+use Rattle.ak_relation.specs.Relation.Example.{one_page, input_program, built_past, IsReached}
 use Rattle.ak_relation.proofs.Rows.BlankPages.{blank, blank_at, blank_whole, one_slot, one_slot_whole, first_slot, other_slots}
 
 -- the layout is valid
@@ -99,19 +99,32 @@ at_slot (suc j) = let late : nat_lt (suc j) 1 ≡ false = grind (arith, nat_test
 
 -- the program's page
 abbrev pub program_sealed : SealedPage
-program_sealed = record { kind = Reg; page = 0; r = true; w = false; x = true; bytes = no_operations }
+program_sealed = record { kind = Reg; page = 0; r = true; w = false; x = true; bytes = input_program }
 
 -- by its handle
 abbrev pub built_sealed : ℕ → Option SealedPage
 built_sealed k = if k == 0 then Some program_sealed else None
 
-pub image_whole : length no_operations ≡ 4096
-unfolding no_operations
-image_whole = length-replicate {A = ℕ} 4096 144
+pub image_whole : length input_program ≡ 4096
+unfolding input_program
+image_whole = ap (λ n. 26 + n) (length-replicate {A = ℕ} 4070 144)
 
-image_bytes : AreBytes no_operations
-unfolding no_operations
-image_bytes = All-replicate (λ v. v < 256) 4096 144 (omega arith)
+-- each is a byte
+abbrev all_bytes : List ℕ → Bool
+all_bytes [] = true
+all_bytes (v ∷ vs) = nat_lt v 256 && all_bytes vs
+
+are_bytes : (vs rest : List ℕ) → all_bytes vs ≡ true → AreBytes rest → AreBytes (vs ++ rest)
+are_bytes [] rest t all = all
+are_bytes (v ∷ vs) rest t all = by (nat_lt v 256) refl t (are_bytes vs rest)
+  where
+    by : (b : Bool) → nat_lt v 256 ≡ b → (b && all_bytes vs) ≡ true → (all_bytes vs ≡ true → AreBytes rest → AreBytes (vs ++ rest)) → AreBytes (v ∷ vs ++ rest)
+    by true e t later = let low : v < 256 = grind (arith, nat_tests) in All-cons (λ v. v < 256) v (vs ++ rest) low (later t all)
+    by false e t later = absurd (cc)
+
+image_bytes : AreBytes input_program
+unfolding input_program
+image_bytes = are_bytes (take 26 input_program) (replicate 4070 0x90) refl (All-replicate (λ v. v < 256) 4070 0x90 (omega arith))
 
 seals : (k : ℕ) → SealedPageAgrees one_page (built_sealed k) (live one_page [] k) (page_of one_page [] k)
 seals zero = (refl, record { page = refl; kind = refl; readable = λ n. refl; writable = λ n. refl; executable = λ n. refl; whole = image_whole })
@@ -153,12 +166,12 @@ tables = record {
   one_copy = one_copy one_page [] [];
 }
 
-program : (p : ℕ) → p < pages one_page → OfCopy (copies_at one_page [] built p) (λ bytes. bytes ≡ page_bytes (first_state one_page no_operations) p)
-program zero lt = sym (take_all 4096 no_operations (let all : length no_operations ≡ 4096 = image_whole in omega arith))
+program : (p : ℕ) → p < pages one_page → OfCopy (copies_at one_page [] built p) (λ bytes. bytes ≡ page_bytes (first_state one_page input_program) p)
+program zero lt = sym (take_all 4096 input_program (let all : length input_program ≡ 4096 = image_whole in omega arith))
 program (suc p) lt = absurd (omega arith)
 
 -- the build
-pub is_built : IsBuilt one_page no_operations built
+pub is_built : IsBuilt one_page input_program built
 is_built = record {
   bytes = image_bytes;
   whole = image_whole;

@@ -1,7 +1,6 @@
 -- The machine of the example after the program completed an instruction: a run of two turns, with a cached translation.
 use Rattle.std.proofs.Common.{◌≡◌, ◌+◌, [], ◌∷◌, drop, refl, ap, sym, ◌∙◌, arith}
 use Rattle.std.specs.Prelude.{Bool, true, false, ◌||◌, None, ◌==◌, if◌then◌else◌}
-use Rattle.ak_core.specs.Mem.{Access, access_to}
 use Rattle.ak_core.specs.declared.page.Kind.TheVariants.{Exec}
 use Rattle.ak_core.specs.declared.moves.Move.TheVariants.{Run}
 use Rattle.ak_core.specs.declared.moves.Answer.{Answer}
@@ -16,29 +15,25 @@ use Rattle.ak_relation.specs.Program.Seeing.{Sees}
 use Rattle.ak_relation.specs.Premises.Computing.{Computes}
 use Rattle.ak_relation.specs.Relation.Does.{IsTurn, IsMove}
 use Rattle.ak_relation.specs.Relation.MoveByMove.{AreMoves}
-use Rattle.ak_relation.specs.Relation.Example.{one_page, no_operations, computed_past, IsReached}
+use Rattle.ak_relation.specs.Relation.Example.{one_page, input_program, computed_past, IsReached}
 use Rattle.ak_relation.proofs.Program.ComputedTurns.{computed_turns}
 use Rattle.ak_relation.proofs.Runs.WholeRuns.{still_moves}
 use Rattle.ak_relation.proofs.Rows.BuiltMachine.{page_valid, outside}
 use Rattle.ak_relation.proofs.Rows.ProgramMachine.{begun, begin_reached}
-use Rattle.ak_relation.proofs.Rows.StartedMachine.{first_regs, starting, started, started_whole, start_turn}
+use Rattle.ak_relation.proofs.Rows.StartedMachine.{fetch, first_regs, starting, started, started_whole, start_turn}
 
 -- ---- The instruction
 
 -- the registers after it
-abbrev next_regs : Regs
+abbrev pub next_regs : Regs
 next_regs = record first_regs { rip = one_page.base + 1 }
 
--- the fetch
-abbrev fetch : Access
-fetch = access_to 0 Exec
-
 -- what the page's first byte says
-decoded : (flat : Flat) → flat.regs ≡ first_regs → in_first_page one_page flat 0 (decode (drop 0 no_operations)) ≡ line_of (fetch ∷ []) (End.Next (record flat { regs = next_regs }))
-unfolding no_operations
+decoded : (flat : Flat) → flat.regs ≡ first_regs → in_first_page one_page flat 0 (decode (drop 0 input_program)) ≡ line_of (fetch ∷ []) (End.Next (record flat { regs = next_regs }))
+unfolding input_program
 decoded flat same = ap (λ (regs : Regs). line_of (fetch ∷ []) (End.Next (record flat { regs = record regs { rip = regs.rip + 1 } }))) same
 
-its_line : (flat : Flat) → flat.regs ≡ first_regs → page_bytes flat 0 ≡ no_operations → line one_page flat ≡ line_of (fetch ∷ []) (End.Next (record flat { regs = next_regs }))
+its_line : (flat : Flat) → flat.regs ≡ first_regs → page_bytes flat 0 ≡ input_program → line one_page flat ≡ line_of (fetch ∷ []) (End.Next (record flat { regs = next_regs }))
 its_line flat same bytes =
     ap (λ (regs : Regs). line one_page (record flat { regs = regs })) same
     ∙ ap (λ page. in_first_page one_page (record flat { regs = first_regs }) 0 (decode (drop 0 page))) bytes
@@ -47,7 +42,7 @@ its_line flat same bytes =
 -- ---- The machine
 
 -- what was cached
-abbrev cached : Fill
+abbrev pub cached : Fill
 cached = record { access = fetch; frame = 8 }
 
 -- the processor
@@ -99,7 +94,7 @@ run_move =
     (started, None, None, (begun, None, None, (refl, refl), start_turn, refl), compute_turn, refl)
 
 -- the moves
-compute_reached : AreMoves one_page no_operations computed_past computed []
+pub compute_reached : AreMoves one_page input_program computed_past computed []
 compute_reached = (begun, [], None, begin_reached, run_move, refl)
 
 -- some machine has cached a translation, and completed an instruction

@@ -7,7 +7,7 @@ use Rattle.ak_core.specs.declared.moves.Answer.TheVariants.{Ok}
 use Rattle.ak_core.specs.declared.registers.Regs.{Regs}
 use Rattle.ak_relation.specs.Bytes.Contexts.{entry_regs}
 use Rattle.ak_relation.specs.Bytes.Pages.{IsTcs, flag_number}
-use Rattle.ak_ssa.specs.SavedFrames.{NoCause, SavedFrame, frame_bytes}
+use Rattle.ak_ssa.specs.SavedFrames.{NoCause, SavedFrame, frame_bytes, saved_bytes}
 use Rattle.ak_ssa.specs.SavedRegisters.{AreRegs}
 use Rattle.ak_track.specs.Steps.{EntersBy, LeavesBy}
 use Rattle.ak_relation.specs.State.MachineState.{Processor, State}
@@ -16,7 +16,7 @@ use Rattle.ak_relation.specs.Premises.Entering.{EntersAt}
 use Rattle.ak_relation.specs.Premises.Saving.{Saves}
 use Rattle.ak_relation.specs.Relation.Does.{IsMove}
 use Rattle.ak_relation.specs.Relation.MoveByMove.{AreMoves}
-use Rattle.ak_relation.specs.Relation.Example.{one_page, no_operations, entered_past, interrupted_past, IsReached}
+use Rattle.ak_relation.specs.Relation.Example.{one_page, input_program, entered_past, interrupted_past, IsReached}
 use Rattle.ak_relation.proofs.Entering.EnterMoves.{enter_moves}
 use Rattle.ak_relation.proofs.Exits.InterruptMoves.{interrupt_moves}
 use Rattle.ak_relation.proofs.Rows.BlankPages.{blank, blank_at, one_saved, one_saved_whole, one_saved_at, none_refused, area_with, area_whole, area_has}
@@ -73,7 +73,7 @@ enter_move =
     enter_moves one_page refl built only entered 7 (omega arith) answered (subst (λ n. EntersAt one_page 0 n 7 built entered) (sym none_saved) enters)
 
 -- the moves
-pub enter_reached : AreMoves one_page no_operations entered_past entered []
+pub enter_reached : AreMoves one_page input_program entered_past entered []
 enter_reached = (built, [], None, (is_built, refl), enter_move, refl)
 
 -- some machine has entered
@@ -87,7 +87,7 @@ abbrev pub its_frame : SavedFrame
 its_frame = record { regs = its_regs; cause = NoCause }
 
 pub frame_size : length (frame_bytes one_page its_frame) ≡ 200
-unfolding frame_bytes
+unfolding saved_bytes
 frame_size = refl
 
 -- the TCS counts one context, which is in the first area
@@ -154,7 +154,7 @@ interrupt_move : IsMove one_page entered interrupted (Interrupt only) Ok None
 interrupt_move = interrupt_moves one_page only entered interrupted refl saves_by
 
 -- the moves
-pub interrupt_reached : AreMoves one_page no_operations interrupted_past interrupted []
+pub interrupt_reached : AreMoves one_page input_program interrupted_past interrupted []
 interrupt_reached = (entered, [], None, enter_reached, interrupt_move, refl)
 
 -- some machine has been interrupted

@@ -1,9 +1,7 @@
 -- The machine of the example after the program missed its page, which was not mapped any more: an event.
-use Rattle.std.proofs.Common.{◌≡◌, ℕ, ◌+◌, List, [], ◌∷◌, length, refl, ap, sym, ◌∙◌, arith}
-use Rattle.std.specs.Prelude.{Bool, true, false, Some, None, slice_get, ◌==◌, if◌then◌else◌}
-use Rattle.ak_core.specs.Mem.{Access, access_to}
+use Rattle.std.proofs.Common.{◌≡◌, ℕ, ◌+◌, [], ◌∷◌, length, refl, ap, sym, ◌∙◌, arith}
+use Rattle.std.specs.Prelude.{Bool, true, false, Some, None, slice_get, if◌then◌else◌}
 use Rattle.ak_core.specs.declared.event.Event.TheVariants.{Miss}
-use Rattle.ak_core.specs.declared.page.Kind.TheVariants.{Exec}
 use Rattle.ak_core.specs.declared.instruction.Decoded.{Decoded}
 use Rattle.ak_core.specs.declared.instruction.Decoded.TheVariants.{Whole, NeedMore, Illegal}
 use Rattle.ak_core.specs.declared.moves.Move.TheVariants.{Run, SetPte}
@@ -17,28 +15,24 @@ use Rattle.ak_model.specs.Flat.Instructions.{Plan, RaisesVector, Computes, Reads
 use Rattle.ak_model.specs.Flat.Encodings.{decode}
 use Rattle.ak_model.specs.Flat.FlatRuns.{Flat, Line, carry_out, is_program, rest_of_page, in_first_page, line}
 use Rattle.ak_relation.specs.Program.Seeing.{Sees}
+use Rattle.ak_ssa.specs.SavedFrames.{ByPage, SavedFrame, frame_bytes, saved_bytes}
 use Rattle.ak_relation.specs.State.MachineState.{State}
 use Rattle.ak_relation.specs.State.TableChanges.{with_mapping}
-use Rattle.ak_ssa.specs.SavedFrames.{ByPage, SavedFrame, frame_bytes}
-use Rattle.ak_track.specs.Steps.{EntersBy, LeavesBy}
 use Rattle.ak_relation.specs.Premises.Faulting.{Faults}
 use Rattle.ak_relation.specs.Premises.Saving.{Saves}
 use Rattle.ak_relation.specs.Relation.Does.{IsTurn, IsMove}
 use Rattle.ak_relation.specs.Relation.MoveByMove.{AreMoves}
-use Rattle.ak_relation.specs.Relation.Example.{one_page, no_operations, started_past, hidden_past, missed_past, IsReached}
+use Rattle.ak_relation.specs.Relation.Example.{one_page, input_program, started_past, hidden_past, missed_past, IsReached}
 use Rattle.ak_relation.proofs.Exits.ExitTurns.{miss_turns}
 use Rattle.ak_relation.proofs.Leaves.DoneMoves.{set_pte_moves}
 use Rattle.ak_relation.proofs.Runs.WholeRuns.{still_moves, exit_moves}
-use Rattle.ak_relation.proofs.Rows.BlankPages.{area_with, area_whole, area_has, one_refused, one_refused_whole, refused_saved, refused_flag}
-use Rattle.ak_relation.proofs.Rows.BuiltMachine.{page_valid, outside}
+use Rattle.ak_relation.proofs.Rows.BlankPages.{one_refused, one_refused_whole, refused_saved, refused_flag}
+use Rattle.ak_relation.proofs.Rows.BuiltMachine.{page_valid}
+use Rattle.ak_relation.proofs.Rows.StepMemory.{saved_with, saved_whole, saves_with}
 use Rattle.ak_relation.proofs.Rows.ProgramMachine.{begun, begin_reached}
-use Rattle.ak_relation.proofs.Rows.StartedMachine.{first_regs, starting, started, started_whole, start_turn}
+use Rattle.ak_relation.proofs.Rows.StartedMachine.{fetch, first_regs, started, started_whole, start_turn}
 
 -- ---- The first access of any instruction
-
--- the fetch
-abbrev fetch : Access
-fetch = access_to 0 Exec
 
 -- it stands first in the line
 abbrev IsFirst : Line → Type 0
@@ -60,7 +54,7 @@ begins flat (Whole instr size) = carried flat (plan instr (record flat.regs { ri
 begins flat Illegal = refl
 begins flat NeedMore = refl
 
-first_fetch : (flat : Flat) → flat.regs ≡ first_regs → IsFirst (line one_page flat)
+pub first_fetch : (flat : Flat) → flat.regs ≡ first_regs → IsFirst (line one_page flat)
 first_fetch flat same =
     ap (λ (regs : Regs). slice_get (line one_page (record flat { regs = regs })).accesses 0) same ∙ begins (record flat { regs = first_regs }) (decode (rest_of_page one_page (record flat { regs = first_regs }) 0))
 
@@ -80,52 +74,24 @@ hide_move = set_pte_moves one_page started (record { 0 = 0 }) (record { 0 = 0 })
 -- ---- The miss
 
 -- the program's frame, with the access
-abbrev program_frame : SavedFrame
+abbrev pub program_frame : SavedFrame
 program_frame = record { regs = first_regs; cause = ByPage fetch }
 
-frame_size : length (frame_bytes one_page program_frame) ≡ 200
-unfolding frame_bytes
+pub frame_size : length (frame_bytes one_page program_frame) ≡ 200
+unfolding saved_bytes
 frame_size = refl
-
--- the bytes of each frame
-abbrev missed_frames : ℕ → List ℕ
-missed_frames f = if f == 2 then one_refused else (if f == 3 then area_with (frame_bytes one_page program_frame) else started.frames f)
-
-missed_whole : (f : ℕ) → length (missed_frames f) ≡ 4096
-missed_whole f = by (f == 2) (f == 3)
-  where
-    by : (a b : Bool) → length (if a then one_refused else (if b then area_with (frame_bytes one_page program_frame) else started.frames f)) ≡ 4096
-    by true b = one_refused_whole
-    by false true = area_whole (frame_bytes one_page program_frame) frame_size
-    by false false = started_whole f
-
-same_frames : (g : ℕ) → (g == 2) ≡ false → (g == 3) ≡ false → missed_frames g ≡ started.frames g
-same_frames g no_tcs no_area = rw (no_tcs, no_area) refl
 
 -- the machine: the cluster that was missed is in its queue
 abbrev pub missed : State
-missed = record hidden { frames = missed_frames; processors = λ lp. outside; track = LeavesBy 0 ∷ EntersBy 0 ∷ []; queue = 0 ∷ [] }
+missed = record (saved_with hidden (ByPage fetch) one_refused) { queue = 0 ∷ [] }
+
+pub missed_whole : (f : ℕ) → length (missed.frames f) ≡ 4096
+missed_whole = saved_whole hidden (ByPage fetch) one_refused one_refused_whole frame_size started_whole
 
 saves : Saves one_page 0 0 true (ByPage fetch) hidden missed
-saves = record {
-  area = area_has (frame_bytes one_page program_frame) frame_size;
-  words = λ mode. absurd (cc);
-  fits = omega arith;
-  tcs = record { saved_is = refused_saved; pending_is = refused_flag };
-  frames = same_frames;
-  whole = missed_whole;
-  left = refl;
-  flushed = refl;
-  others = λ q e. sym (ap (λ b. if b then starting else outside) e);
-  track = refl;
-  entries = refl;
-  count = refl;
-  queue = refl;
-  stamps = refl;
-  sealed_pages = refl;
-  next = refl;
-  table = refl;
-}
+saves =
+    saves_with hidden 0 true (ByPage fetch) one_refused (0 ∷ []) (λ runtime. absurd (cc)) (omega arith) refl (record { saved_is = refused_saved; pending_is = refused_flag })
+    one_refused_whole frame_size started_whole refl
 
 faults : (flat : Flat) → Sees one_page hidden 0 flat → Faults one_page hidden [] flat fetch
 faults flat seen = record {
@@ -149,13 +115,13 @@ miss_move =
     (refl, refl) miss_turn refl
 
 -- the moves
-start_reached : AreMoves one_page no_operations started_past started []
+start_reached : AreMoves one_page input_program started_past started []
 start_reached = (begun, [], None, begin_reached, start_move, refl)
 
-hide_reached : AreMoves one_page no_operations hidden_past hidden []
+hide_reached : AreMoves one_page input_program hidden_past hidden []
 hide_reached = (started, [], None, start_reached, hide_move, refl)
 
-miss_reached : AreMoves one_page no_operations missed_past missed (Miss 0 0 ∷ [])
+pub miss_reached : AreMoves one_page input_program missed_past missed (Miss 0 0 ∷ [])
 miss_reached = (hidden, [], Some (Miss 0 0), hide_reached, miss_move, refl)
 
 -- some machine has an event

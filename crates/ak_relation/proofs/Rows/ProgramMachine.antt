@@ -17,11 +17,11 @@ use Rattle.ak_track.specs.Steps.{EntersBy}
 use Rattle.ak_model.specs.Control.LeafRows.{leaf_row}
 use Rattle.ak_relation.specs.Premises.EnterRows.{enter_row, saved_in}
 use Rattle.ak_relation.specs.Premises.Entering.{EntersAt}
-use Rattle.ak_sealed.specs.SealedPages.{entry_of}
 use Rattle.ak_relation.specs.Premises.Loading.{LoadsFrom}
+use Rattle.ak_sealed.specs.SealedPages.{entry_of}
 use Rattle.ak_relation.specs.Relation.Does.{IsMove}
 use Rattle.ak_relation.specs.Relation.MoveByMove.{AreMoves}
-use Rattle.ak_relation.specs.Relation.Example.{one_page, no_operations, fetched_past, shown_past, begun_past}
+use Rattle.ak_relation.specs.Relation.Example.{one_page, input_program, fetched_past, shown_past, begun_past}
 use Rattle.ak_relation.proofs.Leaves.LoadMoves.{eldu_moves}
 use Rattle.ak_relation.proofs.Leaves.DoneMoves.{set_pte_moves}
 use Rattle.ak_relation.proofs.Entering.EnterMoves.{enter_moves}
@@ -40,7 +40,7 @@ fetched_entries =
 
 -- all other frames are blank
 abbrev pub fetched_frames : ℕ → List ℕ
-fetched_frames g = if g == 8 then no_operations else blank
+fetched_frames g = if g == 8 then input_program else blank
 
 -- the machine
 abbrev pub fetched : State
@@ -62,7 +62,7 @@ fetched_entry (suc (suc (suc (suc (suc (suc (suc (suc (suc g))))))))) =
 pub fetched_whole : (f : ℕ) → length (fetched_frames f) ≡ 4096
 fetched_whole f = by (f == 8)
   where
-    by : (b : Bool) → length (if b then no_operations else blank) ≡ 4096
+    by : (b : Bool) → length (if b then input_program else blank) ≡ 4096
     by true = image_whole
     by false = blank_whole
 
@@ -146,11 +146,11 @@ enter_move =
     enter_moves one_page refl shown (record { 0 = 0 }) begun 7 (omega arith) answered (subst (λ n. EntersAt one_page 0 n 7 shown begun) (sym none_saved) enters)
 
 -- the moves
-load_reached : AreMoves one_page no_operations fetched_past fetched []
+load_reached : AreMoves one_page input_program fetched_past fetched []
 load_reached = (built, [], None, (is_built, refl), load_move, refl)
 
-map_reached : AreMoves one_page no_operations shown_past shown []
+map_reached : AreMoves one_page input_program shown_past shown []
 map_reached = (fetched, [], None, load_reached, map_move, refl)
 
-pub begin_reached : AreMoves one_page no_operations begun_past begun []
+pub begin_reached : AreMoves one_page input_program begun_past begun []
 begin_reached = (shown, [], None, map_reached, enter_move, refl)

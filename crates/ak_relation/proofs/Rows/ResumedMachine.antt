@@ -14,12 +14,12 @@ use Rattle.ak_relation.specs.State.MachineView.{view_in}
 use Rattle.ak_relation.specs.State.TableChanges.{with_mapping}
 use Rattle.ak_model.specs.Control.LeafRows.{leaf_row}
 use Rattle.ak_relation.specs.Premises.EnterRows.{resume_row, saved_in}
-use Rattle.ak_sealed.specs.SealedPages.{entry_of}
 use Rattle.ak_relation.specs.Premises.Loading.{LoadsFrom}
+use Rattle.ak_sealed.specs.SealedPages.{entry_of}
 use Rattle.ak_relation.specs.Premises.Resuming.{ResumesAt}
 use Rattle.ak_relation.specs.Relation.Does.{IsMove}
 use Rattle.ak_relation.specs.Relation.MoveByMove.{AreMoves}
-use Rattle.ak_relation.specs.Relation.Example.{one_page, no_operations, loaded_past, mapped_past, resumed_past, IsReached}
+use Rattle.ak_relation.specs.Relation.Example.{one_page, input_program, loaded_past, mapped_past, resumed_past, IsReached}
 use Rattle.ak_relation.proofs.Leaves.LoadMoves.{eldu_moves}
 use Rattle.ak_relation.proofs.Leaves.DoneMoves.{set_pte_moves}
 use Rattle.ak_relation.proofs.Entering.EnterMoves.{resume_moves}
@@ -166,13 +166,13 @@ resume_move =
     (subst (λ n. ResumesAt one_page 0 (n - 1) mapped resumed) (sym none_below) resumes)
 
 -- the moves
-load_reached : AreMoves one_page no_operations loaded_past loaded []
+load_reached : AreMoves one_page input_program loaded_past loaded []
 load_reached = (written, [], None, write_reached, load_move, refl)
 
-map_reached : AreMoves one_page no_operations mapped_past mapped []
+map_reached : AreMoves one_page input_program mapped_past mapped []
 map_reached = (loaded, [], None, load_reached, map_move, refl)
 
-resume_reached : AreMoves one_page no_operations resumed_past resumed []
+resume_reached : AreMoves one_page input_program resumed_past resumed []
 resume_reached = (mapped, [], None, map_reached, resume_move, refl)
 
 -- some machine was resumed from the area in its other frame

@@ -16,7 +16,7 @@ use Rattle.ak_sealed.specs.SealedPages.{SealedPage, sealed_page_of}
 use Rattle.ak_relation.specs.Premises.WriteOut.{WritesOutTo}
 use Rattle.ak_relation.specs.Relation.Does.{IsMove}
 use Rattle.ak_relation.specs.Relation.MoveByMove.{AreMoves}
-use Rattle.ak_relation.specs.Relation.Example.{one_page, no_operations, blocked_past, cycled_past, written_past, IsReached}
+use Rattle.ak_relation.specs.Relation.Example.{one_page, input_program, blocked_past, cycled_past, written_past, IsReached}
 use Rattle.ak_relation.proofs.Leaves.DoneMoves.{eblock_moves, etrack_moves}
 use Rattle.ak_relation.proofs.Leaves.WriteOutMoves.{ewb_moves}
 use Rattle.ak_relation.proofs.Rows.BlankPages.{one_slot, two_slots, two_slots_whole, second_slot, other_than_second}
@@ -130,13 +130,13 @@ write_move : IsMove one_page cycled written (Ewb (frame 3) (frame 1) 1) (OkHandl
 write_move = ewb_moves one_page cycled written (frame 3) (frame 1) 1 writes write_row
 
 -- the moves
-block_reached : AreMoves one_page no_operations blocked_past blocked []
+block_reached : AreMoves one_page input_program blocked_past blocked []
 block_reached = (interrupted, [], None, interrupt_reached, block_move, refl)
 
-cycle_reached : AreMoves one_page no_operations cycled_past cycled []
+cycle_reached : AreMoves one_page input_program cycled_past cycled []
 cycle_reached = (blocked, [], None, block_reached, cycle_move, refl)
 
-pub write_reached : AreMoves one_page no_operations written_past written []
+pub write_reached : AreMoves one_page input_program written_past written []
 write_reached = (cycled, [], None, cycle_reached, write_move, refl)
 
 -- some machine has written the area out

@@ -1,6 +1,6 @@
 -- How far the places of cycles and stamps go.
-use Rattle.std.proofs.Common.{◌≡◌, ℕ, zero, suc, ◌+◌, ◌≤◌, List, [], ◌∷◌, length, map, refl, ap, ◌∙◌, arith}
-use Rattle.std.specs.Prelude.{Bool, true, false, not, filter, cond, replicate, Option, Some, None, ◌==◌, if◌then◌else◌}
+use Rattle.std.proofs.Common.{◌≡◌, ℕ, zero, suc, ◌≤◌, List, [], ◌∷◌, length, map, refl, ap, ◌∙◌, arith}
+use Rattle.std.specs.Prelude.{Bool, false, not, filter, cond, replicate, ◌==◌}
 use Rattle.ak_model.specs.Paging.Histories.{History, Change, Unchanged, Maps, Blocks, Cycles, WritesOut, Loads, Removes, MakesVa, Discards, Enters, Resumes, Exits, Interrupts, change_of}
 use Rattle.ak_model.specs.Paging.Tracking.{Cycle, without}
 use Rattle.ak_model.proofs.Paging.BlockPlaces.{Bounded, bounded_more, bounded_after}
@@ -48,11 +48,6 @@ built_more n m (cycle ∷ older) le h = let low = h.0 in (omega arith, h.1, buil
 pub built_without : (lp n : ℕ) (all : List Cycle) → AreBuilt n all → AreBuilt n (map (without lp) all)
 built_without lp n [] h = tt
 built_without lp n (cycle ∷ older) h = (h.0, ap (filter (λ q. not (q == lp))) h.1, built_without lp n older h.2)
-
--- nothing passes
-pub filter_none : (test : ℕ → Bool) (xs : List ℕ) → ((x : ℕ) → test x ≡ false) → filter test xs ≡ []
-filter_none test [] h = refl
-filter_none test (x ∷ xs) h = let e = h x in rw e (filter_none test xs h)
 
 -- tests that agree
 pub filter_same : (f g : ℕ → Bool) (xs : List ℕ) → ((x : ℕ) → f x ≡ g x) → filter f xs ≡ filter g xs

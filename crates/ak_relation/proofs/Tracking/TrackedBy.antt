@@ -11,8 +11,9 @@ use Rattle.ak_model.specs.Paging.Tracking.{cycles, cycles_after, over_after, tra
 use Rattle.ak_track.specs.Steps.{TrackStep, EntersBy, LeavesBy, Cycled, cycles_by, tracked_by, incomplete_by}
 use Rattle.ak_relation.specs.State.TrackSteps.{steps_after, steps_of, stamp_of}
 use Rattle.ak_model.proofs.Paging.DescendingCycles.{cycles-descend, AtMost, at_most_more, at_most_without, descend_most}
+use Rattle.ak_model.proofs.Paging.Tests.{filter_none}
 use Rattle.ak_model.proofs.Paging.BlockPlaces.{Bounded, block_bounded}
-use Rattle.ak_relation.proofs.Tracking.TrackBounds.{stamp_bounded, AreBuilt, built_more, filter_none, filter_same, nobody}
+use Rattle.ak_relation.proofs.Tracking.TrackBounds.{stamp_bounded, AreBuilt, built_more, filter_same, nobody}
 use Rattle.ak_relation.proofs.Tracking.TrackLines.{inside-steps, SameOrder, Lined, lined_without, lined_block, lined-over, lined-last}
 use Rattle.ak_relation.proofs.Leaves.SomeLeaves.{stamp-blocked}
 

@@ -1,5 +1,5 @@
 -- What a load does to a machine. (SDM volume 3D, ELDB and ELDU.)
-use Rattle.std.specs.Prelude.{◌≡◌, ℕ, ◌*◌, ◌<◌, Bool, true, false, length, Some, ◌==◌, if◌then◌else◌}
+use Rattle.std.specs.Prelude.{◌≡◌, ℕ, ◌*◌, ◌<◌, Bool, false, length, Some, ◌==◌, if◌then◌else◌}
 use Rattle.ak_epcm.specs.Entries.{entry_at}
 use Rattle.ak_model.specs.Flat.Instructions.{number_at}
 use Rattle.ak_sealed.specs.SealedPages.{SealedPage, entry_of}

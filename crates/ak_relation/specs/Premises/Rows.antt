@@ -1,6 +1,6 @@
 -- What each step of the runtime does, as a table over plain values: what it writes into STATE and the saved-state areas, how it
 -- ends, and the registers after it. (The table of the runtime's steps is this project's own.)
-use Rattle.std.specs.Prelude.{ℕ, zero, suc, ◌+◌, List, [], ◌∷◌, ◌++◌, take, drop, nat_lt, ◌==◌, if◌then◌else◌}
+use Rattle.std.specs.Prelude.{ℕ, zero, suc, ◌+◌, ◌*◌, List, [], ◌∷◌, ◌++◌, take, drop, nat_lt, ◌==◌, if◌then◌else◌}
 use Rattle.ak_core.specs.Layout.{Layout}
 use Rattle.ak_core.specs.Mem.{Access}
 use Rattle.ak_core.specs.declared.moves.Exit.{Exit}
@@ -8,13 +8,13 @@ use Rattle.ak_core.specs.declared.event.StopCause.{StopCause}
 use Rattle.ak_core.specs.declared.event.StopCause.TheVariants.{Unmapped, RuntimeUnmapped, FetchNotHonoured, ResumedEarly}
 use Rattle.ak_core.specs.declared.registers.Mode.{Mode}
 use Rattle.ak_core.specs.declared.registers.Regs.{Regs}
-use Rattle.ak_model.specs.Paging.Pages.{pages}
+use Rattle.ak_model.specs.Paging.Pages.{pages, code_page}
 use Rattle.ak_model.specs.Clusters.Queue.{drops}
 use Rattle.ak_model.specs.Flat.Instructions.{reg_of, with_reg, rax, rcx, rdi, rsi}
 use Rattle.ak_model.specs.Flat.FlatRuns.{zeroed}
 use Rattle.ak_model.specs.Control.ControlState.{Phase, New, Running, Calling, Asked, Ended, Trapped, Dead, Context, Program, Enter, Probe, Finish, Guard, Leave, Reason, Denied, Missed, Broke}
-use Rattle.ak_ssa.specs.SavedFrames.{SavedCause, NoCause, ByVector, ByPage, SavedFrame, frame_bytes, area_place, state_place}
-use Rattle.ak_relation.specs.Bytes.Contexts.{step_address, reason_for}
+use Rattle.ak_ssa.specs.SavedFrames.{SavedCause, NoCause, ByVector, ByPage, SavedFrame, frame_bytes, area_place, state_place, guard_regs}
+use Rattle.ak_relation.specs.Bytes.Contexts.{reason_for}
 
 -- ---- What a row says
 
@@ -72,7 +72,7 @@ with_phase r phase = StateSets phase r.queue (kept_bytes r.state)
 
 -- the frame of the guard
 abbrev pub guard_frame : Layout → SavedFrame
-guard_frame layout = record { regs = record (zeroed (step_address layout 16)) { mode = Mode.Runtime }; cause = NoCause }
+guard_frame layout = record { regs = guard_regs (layout.base + 4096 * code_page layout); cause = NoCause }
 
 -- ---- Entries with something saved
 

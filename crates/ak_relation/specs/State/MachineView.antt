@@ -1,5 +1,5 @@
 -- The view of a machine's own tables.
-use Rattle.std.specs.Prelude.{ℕ, ◌-◌, ◌*◌, Option, Some, None, is_some, ◌==◌, if◌then◌else◌}
+use Rattle.std.specs.Prelude.{ℕ, ◌*◌, Option, Some, None, is_some, if◌then◌else◌}
 use Rattle.std.specs.List.{list_any}
 use Rattle.ak_core.specs.Layout.{Layout}
 use Rattle.ak_core.specs.declared.page.Entry.{Entry}

@@ -1,0 +1,7 @@
+pub mod Invariant
+pub mod Pages
+pub mod Turns
+pub mod Serving
+pub mod Driving
+pub mod Keeping
+pub mod Rows

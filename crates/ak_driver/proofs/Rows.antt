@@ -1,0 +1,2 @@
+-- Cases that are computed from the definitions.
+pub mod WorkedRun

@@ -1,0 +1,3 @@
+pub mod HonestRuns
+pub mod EndingExits
+pub mod Requests

@@ -1,0 +1,4 @@
+pub mod Found
+pub mod Placed
+pub mod Counted
+pub mod Holding
