@@ -35,12 +35,12 @@ impl Encls {
         ensures kind { IsOutcome result }
     {
         self.check_free(f)?;
-        self.set_va(f);
+        self.add_va(f);
         Ok(Answer::Ok)
     }
 
-    // A free frame is a VA page of zeros.
-    fn set_va(&mut self, f: Frame)
+    /// Makes a VA page of zeros of a free frame, as the build does, and EPA where it is not refused.
+    pub fn add_va(&mut self, f: Frame)
         requires within { f.0 < length self.old.entries }
         requires free { (entry_at self.old.entries f.0).valid ≡ false }
         ensures entries { self.new.entries ≡ slice_set self.old.entries f.0 va_entry }
