@@ -19,13 +19,14 @@ use Rattle.ak_model.specs.Tapes.ProgramTurns.{ProgramTurn, turn_at}
 use Rattle.ak_model.specs.Misses.Reached.{reached_since, reached, entered_at, accesses_at, accesses_next, permitted_accesses, MayComplete}
 use Rattle.ak_model.specs.Misses.FaultingAccess.{may_succeed}
 use Rattle.ak_model.specs.Misses.KeptTranslations.{same_access, is_among, is_kept, granted_since, MayFaultUnkept}
-use Rattle.ak_relation.specs.State.MachineState.{Fill, State}
+use Rattle.ak_relation.specs.State.MachineState.{State}
 use Rattle.ak_relation.specs.Program.FlatPlaces.{Reaches}
 use Rattle.ak_relation.specs.State.Tables.{TablesStand}
 use Rattle.ak_relation.specs.Program.Reaching.{is_filled, AreReached, granted_to, CachesGranted}
 use Rattle.ak_relation.specs.Premises.EnterRows.{walk_in}
 use Rattle.ak_relation.specs.Relation.Stands.{runs_at}
-use Rattle.ak_relation.specs.Premises.Faulting.{AreWalked, accesses_of, Traps, Faults}
+use Rattle.ak_tlb.specs.Fills.{Fill, accesses_of}
+use Rattle.ak_relation.specs.Premises.Faulting.{AreWalked, Traps, Faults}
 use Rattle.ak_model.proofs.Misses.EqualAccesses.{access_is, access_self}
 use Rattle.ak_relation.proofs.Program.Completing.{filled_reached}
 use Rattle.ak_relation.proofs.Entering.EnterAnswers.{walk_same}

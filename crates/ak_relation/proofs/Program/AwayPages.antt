@@ -13,10 +13,11 @@ use Rattle.ak_model.specs.Paging.Inside.{since}
 use Rattle.ak_model.specs.Misses.KeptTranslations.{is_among}
 use Rattle.ak_model.specs.Flat.FlatRuns.{Flat, End, line, ending, page_bytes}
 use Rattle.ak_epcm.specs.Entries.{entry_at}
-use Rattle.ak_relation.specs.State.MachineState.{Fill, State}
+use Rattle.ak_relation.specs.State.MachineState.{State}
 use Rattle.ak_relation.specs.State.Tables.{TablesStand}
 use Rattle.ak_relation.specs.State.MachineView.{held_in}
 use Rattle.ak_relation.specs.Program.Reaching.{is_filled, AreReached}
+use Rattle.ak_tlb.specs.Fills.{Fill}
 use Rattle.ak_relation.specs.Premises.Faulting.{AreWalked}
 use Rattle.ak_relation.specs.Premises.CallingOut.{walked_fill}
 use Rattle.ak_relation.proofs.Leaves.ViewStands.{view-same}

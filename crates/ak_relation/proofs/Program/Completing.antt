@@ -17,7 +17,7 @@ use Rattle.ak_model.specs.Control.ControlState.{Saved}
 use Rattle.ak_model.specs.Tapes.ProgramTurns.{ProgramTurn}
 use Rattle.ak_model.specs.Misses.Reached.{entered_at, reached_since, accesses_at, permitted_accesses, MayComplete}
 use Rattle.ak_model.specs.Misses.KeptTranslations.{same_access, is_among}
-use Rattle.ak_relation.specs.State.MachineState.{Fill}
+use Rattle.ak_tlb.specs.Fills.{Fill}
 use Rattle.ak_relation.specs.Program.FlatPlaces.{Reaches}
 use Rattle.ak_relation.specs.Program.Turns.{IsGoing, TapeStands}
 use Rattle.ak_relation.specs.Program.Reaching.{is_filled, AreReached}

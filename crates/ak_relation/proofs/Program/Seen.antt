@@ -16,7 +16,8 @@ use Rattle.ak_model.specs.Flat.FlatRuns.{page_bytes}
 use Rattle.ak_model.specs.Control.ControlState.{Running, Program, Control}
 use Rattle.ak_model.specs.Laws.Orderly.{NowFits}
 use Rattle.ak_model.specs.Tapes.ProgramTurns.{ProgramTurn}
-use Rattle.ak_relation.specs.State.MachineState.{Fill, State, copy, OfCopy}
+use Rattle.ak_tlb.specs.Fills.{Fill}
+use Rattle.ak_relation.specs.State.MachineState.{State, copy, OfCopy}
 use Rattle.ak_relation.specs.Bytes.Contexts.{GivesNow}
 use Rattle.ak_relation.specs.Program.FlatPlaces.{Reaches}
 use Rattle.ak_relation.specs.Program.Reaching.{AreReached, StaysBy, IsStaying}

@@ -17,7 +17,8 @@ use Rattle.ak_model.specs.Tapes.LastMoment.{FlatRuns}
 use Rattle.ak_model.specs.Tapes.ProgramTurns.{ProgramTurn}
 use Rattle.ak_model.specs.Misses.Reached.{entered_at, accesses_at, reached_since}
 use Rattle.ak_model.specs.Misses.KeptTranslations.{completes_by, is_among}
-use Rattle.ak_relation.specs.State.MachineState.{Fill, Processor}
+use Rattle.ak_tlb.specs.Fills.{Fill}
+use Rattle.ak_relation.specs.State.MachineState.{Processor}
 use Rattle.ak_relation.specs.Program.Reaching.{granted_to, AreReached, StaysBy}
 use Rattle.ak_model.specs.Laws.OpenFrames.{IsLate, HoldsSince, takes, KeepsOpen}
 use Rattle.ak_model.proofs.Paging.SincePast.{since_past}

@@ -11,11 +11,12 @@ use Rattle.ak_model.specs.Paging.Holdings.{Mapping}
 use Rattle.ak_model.specs.Paging.PageTable.{pte}
 use Rattle.ak_model.specs.Paging.Inside.{since}
 use Rattle.ak_model.specs.Paging.Walk.{flags_allow, is_in_frame}
-use Rattle.ak_relation.specs.State.MachineState.{Fill, State}
+use Rattle.ak_relation.specs.State.MachineState.{State}
 use Rattle.ak_relation.specs.State.Tables.{TablesStand}
 use Rattle.ak_model.specs.Laws.OpenFrames.{IsLate}
 use Rattle.ak_relation.specs.Program.Reaching.{IsReachedFill, AreReached}
 use Rattle.ak_relation.specs.Premises.EnterRows.{walk_in}
+use Rattle.ak_tlb.specs.Fills.{Fill}
 use Rattle.ak_relation.specs.Premises.Faulting.{AreWalked}
 use Rattle.ak_relation.specs.Premises.CallingOut.{walked_fill}
 use Rattle.ak_relation.proofs.Entering.EnterFacts.{IsOpenFrame, frame_is}

@@ -9,7 +9,8 @@ use Rattle.ak_core.specs.declared.registers.Regs.{Regs}
 use Rattle.ak_model.specs.Flat.Encodings.{decode}
 use Rattle.ak_model.specs.Flat.FlatRuns.{Flat, End, line_of, in_first_page, line, end_of, page_bytes}
 use Rattle.ak_model.specs.Misses.KeptTranslations.{is_among, same_access}
-use Rattle.ak_relation.specs.State.MachineState.{Fill, Processor, State}
+use Rattle.ak_tlb.specs.Fills.{Fill}
+use Rattle.ak_relation.specs.State.MachineState.{Processor, State}
 use Rattle.ak_relation.specs.Program.Reaching.{is_filled}
 use Rattle.ak_relation.specs.Program.Seeing.{Sees}
 use Rattle.ak_relation.specs.Premises.Computing.{Computes}

@@ -7,7 +7,8 @@ use Rattle.ak_core.specs.Mem.{Access}
 use Rattle.ak_model.specs.Flat.FlatRuns.{Flat, End, line, ending, is_forbidden}
 use Rattle.ak_model.specs.Misses.Reached.{permitted_accesses}
 use Rattle.ak_model.specs.Misses.KeptTranslations.{is_among, is_kept}
-use Rattle.ak_relation.specs.State.MachineState.{Fill, State}
+use Rattle.ak_tlb.specs.Fills.{Fill}
+use Rattle.ak_relation.specs.State.MachineState.{State}
 use Rattle.ak_relation.specs.Program.Reaching.{is_filled}
 use Rattle.ak_relation.specs.Premises.EnterRows.{walk_in}
 use Rattle.ak_ssa.specs.SavedFrames.{SavedCause}

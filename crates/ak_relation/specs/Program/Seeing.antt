@@ -4,7 +4,8 @@ use Rattle.ak_core.specs.Layout.{Layout}
 use Rattle.ak_core.specs.declared.page.Kind.{Kind}
 use Rattle.ak_model.specs.Paging.Pages.{pages}
 use Rattle.ak_model.specs.Flat.FlatRuns.{Flat, page_bytes}
-use Rattle.ak_relation.specs.State.MachineState.{Fill, State}
+use Rattle.ak_tlb.specs.Fills.{Fill}
+use Rattle.ak_relation.specs.State.MachineState.{State}
 use Rattle.ak_relation.specs.Premises.EnterRows.{walk_in}
 
 -- each cached translation names a frame with the program's bytes
