@@ -1,7 +1,7 @@
 // Who is inside, and for whom the newest cycle waits.
 ghost use Rattle.std.specs.Prelude.{◌≡◌, ◌+◌, ◌^◌, ◌<◌, ◌≤◌, ℕ, List, [], ◌∷◌, Some, OnOk, OnErr, is_err, length};
-ghost use Rattle.std.specs.List.{list_any};
-ghost use Rattle.ak_track.specs.Steps.{TrackStep, EntersBy, LeavesBy, Cycled, cycles_by, tracked_by, incomplete_by};
+ghost use Rattle.std.specs.List.{list_any, range_with_len};
+ghost use Rattle.ak_track.specs.Steps.{TrackStep, EntersBy, LeavesBy, Cycled, inside_by, cycles_by, tracked_by, incomplete_by};
 ghost use Rattle.ak_track.specs.Tracking.{HoldsSteps, StampOf};
 
 use ak_core::Lp;
@@ -83,6 +83,7 @@ impl Track {
         ensures err { OnErr result (self.new ≡ self.old) }
         ensures ok { OnOk result ((lps : ℕ) (steps : List TrackStep) → HoldsSteps self.old lps steps
             → length (cycles_by lps steps) + 1 < 2 ^ 64 → HoldsSteps self.new lps (Cycled ∷ steps)) }
+        ensures most { self.new.cycles ≤ self.old.cycles + 1 }
     {
         if self.waits() {
             return Err(Incomplete);
@@ -113,6 +114,21 @@ impl Track {
             self.cycles
         };
         stamp.cycles < over
+    }
+
+    /// Some processor is inside.
+    pub fn is_active(&self) -> bool
+        ensures { (lps : ℕ) (steps : List TrackStep) → HoldsSteps self.now lps steps
+            → result ≡ list_any (inside_by steps) (range_with_len 0 lps) }
+    {
+        self.has_marked_inside()
+    }
+
+    // Some processor is marked as inside.
+    fn has_marked_inside(&self) -> bool
+        ensures { result ≡ list_any (λ inside. inside) self.now.inside }
+    {
+        self.inside.iter().any(|inside| *inside)
     }
 
     // The newest cycle waits for a processor.
