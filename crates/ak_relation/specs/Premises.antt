@@ -11,7 +11,5 @@ pub mod Saving
 pub mod Computing
 pub mod CallingOut
 pub mod Faulting
-pub mod Rows
-pub mod StepsTo
 pub mod Works
 pub mod Shows

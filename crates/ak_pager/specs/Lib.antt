@@ -1,0 +1,4 @@
+pub mod Contexts
+pub mod RuntimePages
+pub mod Rows
+pub mod StepsTo
