@@ -1,5 +1,5 @@
 // Pages and addresses of the runtime.
-ghost use Rattle.std.specs.Prelude.{◌≡◌, ◌<◌, ◌≤◌, ◌+◌, ◌*◌, ◌^◌};
+ghost use Rattle.std.specs.Prelude.{◌≡◌, ℕ, ◌<◌, ◌≤◌, ◌+◌, ◌*◌};
 ghost use Rattle.ak_model.specs.Paging.Pages.{pages, all_pages, code_page, ssa_page, state_page};
 ghost use Rattle.ak_pager.specs.Contexts.{step_address};
 
@@ -46,11 +46,10 @@ pub(crate) fn address_of(layout: &Layout, offset: u64) -> u64
     layout.base() + PAGE * u64::from(code(layout).0) + offset
 }
 
-/// The page of an address in the enclave.
+/// The page that has this address in the enclave.
 pub(crate) fn page_at(layout: &Layout, address: u64) -> Page
-    requires above { layout.now.base ≤ address }
-    requires below { address < layout.now.base + 4096 * all_pages layout.now }
-    ensures { layout.now.base + 4096 * result.0 ≤ address × address < layout.now.base + 4096 * (result.0 + 1) }
+    requires { (p : ℕ) × (p < all_pages layout.now) × (address ≡ layout.now.base + 4096 * p) }
+    ensures { address ≡ layout.now.base + 4096 * result.0 }
 {
     Page(((address - layout.base()) / PAGE) as u32)
 }

@@ -1,4 +1,12 @@
 // What the runtime remembers, in the bytes of STATE: the phase, the clusters that are in, and the program's frame.
+ghost use Rattle.std.specs.Prelude.{◌≡◌, List, ℕ, length, drop};
+ghost use Rattle.ak_model.specs.Control.ControlState.{Phase as ThePhase};
+ghost use Rattle.ak_model.specs.Flat.Instructions.{number_at};
+ghost use Rattle.ak_cluster.specs.QueueBytes.{HasSomeQueue};
+ghost use Rattle.ak_pager.specs.Rows.{kept_bytes};
+ghost use Rattle.ak_pager.specs.RuntimePages.{phase_number, SaysMore};
+ghost use Rattle.ak_pager.specs.StepsTo.{HasState};
+ghost use Rattle.ak_pager.specs.Remembered.{IsRead, SaysPhase, phase_of};
 
 use ak_cluster::Policy;
 use ak_core::PAGE_SIZE;
@@ -34,6 +42,8 @@ pub(crate) enum Phase {
 impl Phase {
     /// The phase that the bytes of STATE say.
     pub(crate) fn load(bytes: &[u8]) -> Phase
+        requires { length bytes.now ≡ PAGE_SIZE }
+        ensures { (phase : ThePhase) → SaysPhase phase bytes.now → phase_of result ≡ phase }
     {
         match LittleEndian::read_u64(&bytes[PHASE..]) {
             0 => Phase::New,
@@ -48,6 +58,7 @@ impl Phase {
 
     /// Its number.
     fn number(self) -> u64
+        ensures { result ≡ phase_number (phase_of self) }
     {
         match self {
             Phase::New => 0,
@@ -62,6 +73,10 @@ impl Phase {
 
     /// Puts the phase into the bytes of STATE.
     fn store(self, bytes: &mut [u8])
+        requires { length bytes.old ≡ PAGE_SIZE }
+        ensures number { number_at bytes.new 0 8 ≡ phase_number (phase_of self) }
+        ensures more { SaysMore (phase_of self) bytes.new }
+        ensures rest { drop 24 bytes.new ≡ drop 24 bytes.old }
     {
         LittleEndian::write_u64(&mut bytes[PHASE..], self.number());
         match self {
@@ -91,6 +106,9 @@ pub(crate) struct State {
 impl State {
     /// What the bytes of STATE say.
     pub(crate) fn load(bytes: &[u8]) -> State
+        requires page { length bytes.now ≡ PAGE_SIZE }
+        requires queue { HasSomeQueue bytes.now }
+        ensures { IsRead bytes.now result }
     {
         State {
             phase: Phase::load(bytes),
@@ -101,15 +119,19 @@ impl State {
 
     /// Puts all of it into the bytes of STATE. Those that say nothing of it stay.
     pub(crate) fn store(&self, bytes: &mut [u8])
+        requires { length bytes.old ≡ PAGE_SIZE }
+        ensures { HasState (phase_of self.now.phase) self.now.queue self.now.frame bytes.new }
     {
-        self.queue.store(bytes);
-        self.phase.store(bytes);
         bytes[STATE_PLACE..STATE_PLACE + FRAME_SIZE].copy_from_slice(&self.frame);
+        self.phase.store(bytes);
+        self.queue.store(bytes);
     }
 }
 
 /// The frame in the bytes of STATE.
-pub(crate) fn frame_in(bytes: &[u8]) -> [u8; FRAME_SIZE]
+fn frame_in(bytes: &[u8]) -> [u8; FRAME_SIZE]
+    requires { length bytes.now ≡ PAGE_SIZE }
+    ensures { result ≡ kept_bytes bytes.now }
 {
     let mut frame = [0; FRAME_SIZE];
     frame.copy_from_slice(&bytes[STATE_PLACE..STATE_PLACE + FRAME_SIZE]);
