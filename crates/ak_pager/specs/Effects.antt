@@ -37,9 +37,9 @@ abbrev pub OthersStay : ℕ → (ℕ → List ℕ) → (ℕ → List ℕ) → Ty
 OthersStay p old new = (q : ℕ) → q ≢ p → new q ≡ old q
 
 -- what changes in STATE and the areas, and nothing else does
-pub record Changes (layout : Layout) (state : StateChange) (areas : AreaChange) (old new : ℕ → List ℕ) : Type 0 where
-  pub state : StateIs state (old (state_page layout)) (new (state_page layout))
-  pub areas : AreasAre layout areas old new
+pub record Changes (layout : Layout) (on_state : StateChange) (on_areas : AreaChange) (old new : ℕ → List ℕ) : Type 0 where
+  pub state : StateIs on_state (old (state_page layout)) (new (state_page layout))
+  pub areas : AreasAre layout on_areas old new
   pub others : (p : ℕ) → p ≢ state_page layout → ((i : ℕ) → i < 3 → p ≢ ssa_page layout i) → new p ≡ old p
 
 -- ---- Touches

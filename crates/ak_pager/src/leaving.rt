@@ -1,4 +1,7 @@
 // The guard, and the step by which the program leaves.
+ghost use Rattle.std.specs.Prelude.{◌≡◌};
+ghost use Rattle.ak_pager.specs.Contexts.{step_address};
+ghost use Rattle.ak_pager.specs.Effects.{HasBegun, KeepsMemory, SomeStep, StepsAlways};
 
 use crate::RtTurn;
 use crate::effects::{load_phase, load_state, set_phase, store_state};
@@ -16,7 +19,13 @@ const RSI: usize = 6;
 const RDI: usize = 7;
 
 /// The guard was resumed in place of the program.
-pub(crate) fn guard<M: Mem>(layout: &Layout, mem: &mut M) -> RtTurn
+pub(crate) fn guard<M: Mem>(layout: &Layout, regs: &Regs, mem: &mut M) -> RtTurn
+    requires begun { HasBegun M.Mem layout.now mem.old }
+    requires at { regs.now.rip ≡ step_address layout.now 16 }
+    requires some { SomeStep layout.now regs.now (M.holds mem.old) (M.bytes mem.old) }
+    ensures keeps { KeepsMemory M.Mem mem.old mem.new }
+    ensures steps { StepsAlways layout.now regs.now (M.holds mem.old) (M.bytes mem.old) (M.bytes mem.new)
+        (M.granted mem.new) (M.refused mem.new) (result) regs.now }
 {
     match load_phase(layout, mem) {
         Phase::Asked(_) => {
@@ -30,6 +39,12 @@ pub(crate) fn guard<M: Mem>(layout: &Layout, mem: &mut M) -> RtTurn
 
 /// The program calls out; by number 0 it ends. STATE keeps its frame.
 pub(crate) fn leave<M: Mem>(layout: &Layout, regs: &Regs, mem: &mut M) -> RtTurn
+    requires begun { HasBegun M.Mem layout.now mem.old }
+    requires at { regs.now.rip ≡ step_address layout.now 32 }
+    requires some { SomeStep layout.now regs.now (M.holds mem.old) (M.bytes mem.old) }
+    ensures keeps { KeepsMemory M.Mem mem.old mem.new }
+    ensures steps { StepsAlways layout.now regs.now (M.holds mem.old) (M.bytes mem.old) (M.bytes mem.new)
+        (M.granted mem.new) (M.refused mem.new) (result) regs.now }
 {
     let number = regs.gpr[RDI];
     let argument = regs.gpr[RSI];

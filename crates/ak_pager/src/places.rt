@@ -1,5 +1,5 @@
 // Pages and addresses of the runtime.
-ghost use Rattle.std.specs.Prelude.{◌≡◌, ℕ, ◌<◌, ◌≤◌, ◌+◌, ◌*◌};
+ghost use Rattle.std.specs.Prelude.{◌≡◌, ℕ, ◌<◌, ◌≤◌, ◌+◌, ◌*◌, ◌^◌};
 ghost use Rattle.ak_model.specs.Paging.Pages.{pages, all_pages, code_page, ssa_page, state_page};
 ghost use Rattle.ak_pager.specs.Contexts.{step_address};
 
@@ -41,7 +41,8 @@ pub(crate) fn area(layout: &Layout, area: u32) -> Page
 /// The address so far into the page of the runtime's steps.
 pub(crate) fn address_of(layout: &Layout, offset: u64) -> u64
     requires { offset < 4096 }
-    ensures { result ≡ step_address layout.now offset }
+    ensures address { result ≡ step_address layout.now offset }
+    ensures low { result < 2 ^ 48 }
 {
     layout.base() + PAGE * u64::from(code(layout).0) + offset
 }

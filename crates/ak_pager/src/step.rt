@@ -1,4 +1,6 @@
 // One step of the runtime.
+ghost use Rattle.std.specs.Prelude.{◌≡◌, [], None};
+ghost use Rattle.ak_pager.specs.Effects.{KeepsMemory, SomeStep, StepsAlways, turn_of};
 
 use crate::entry::enter;
 use crate::leaving::{guard, leave};
@@ -21,6 +23,10 @@ const LEAVE_STEP: u64 = 32;
 /// entry the areas that hold saved contexts, a probe its page for all that the page allows, and the end of the probes the first
 /// area. At the first access that the memory refuses it is `RtTurn::Faulted`, and nothing changes.
 pub fn runtime_turn<M: Mem>(layout: &Layout, regs: &mut Regs, mem: &mut M) -> RtTurn
+    requires { SomeStep layout.now regs.old (M.holds mem.old) (M.bytes mem.old) }
+    ensures keeps { KeepsMemory M.Mem mem.old mem.new }
+    ensures steps { StepsAlways layout.now regs.old (M.holds mem.old) (M.bytes mem.old) (M.bytes mem.new)
+        (M.granted mem.new) (M.refused mem.new) result regs.new }
 {
     mem.begin();
     match step(layout, regs, mem) {
@@ -31,13 +37,19 @@ pub fn runtime_turn<M: Mem>(layout: &Layout, regs: &mut Regs, mem: &mut M) -> Rt
 
 /// The step, or the access that was refused.
 fn step<M: Mem>(layout: &Layout, regs: &mut Regs, mem: &mut M) -> Result<RtTurn, Fault>
+    requires begun { M.granted mem.old ≡ [] }
+    requires unrefused { M.refused mem.old ≡ None }
+    requires some { SomeStep layout.now regs.old (M.holds mem.old) (M.bytes mem.old) }
+    ensures keeps { KeepsMemory M.Mem mem.old mem.new }
+    ensures steps { StepsAlways layout.now regs.old (M.holds mem.old) (M.bytes mem.old) (M.bytes mem.new)
+        (M.granted mem.new) (M.refused mem.new) (turn_of result) regs.new }
 {
     mem.touch_exec(places::code(layout))?;
     mem.touch_write(places::state(layout))?;
     if regs.rip == places::address_of(layout, ENTRY_STEP) {
         enter(layout, regs, mem)
     } else if regs.rip == places::address_of(layout, GUARD_STEP) {
-        Ok(guard(layout, mem))
+        Ok(guard(layout, regs, mem))
     } else if regs.rip == places::address_of(layout, LEAVE_STEP) {
         Ok(leave(layout, regs, mem))
     } else {
