@@ -1,5 +1,6 @@
 // The step by which the kernel enters.
 ghost use Rattle.std.specs.Prelude.{◌≡◌, ◌≤◌, ◌+◌, ◌++◌, ◌⊎◌, true};
+ghost use Rattle.ak_core.specs.Layout.{IsValid};
 ghost use Rattle.ak_core.specs.declared.registers.Regs.{Regs as TheRegs};
 ghost use Rattle.ak_model.specs.Control.ControlState.{Program, Running, Calling};
 ghost use Rattle.ak_model.specs.Flat.FlatRuns.{zeroed};
@@ -55,6 +56,7 @@ pub(crate) fn enter<M: Mem>(
     regs: &mut Regs,
     mem: &mut M,
 ) -> Result<RtTurn, Fault>
+    requires valid { IsValid layout.now }
     requires begun { HasBegun M.Mem layout.now mem.old }
     requires at { regs.old.rip ≡ step_address layout.now 0 }
     requires some { SomeStep layout.now regs.old (M.holds mem.old) (M.bytes mem.old) }
@@ -69,6 +71,7 @@ pub(crate) fn enter<M: Mem>(
 
 /// An entry with so many contexts saved, by the phase.
 fn enter_by<M: Mem>(layout: &Layout, regs: &mut Regs, mem: &mut M, saved: u32) -> RtTurn
+    requires valid { IsValid layout.now }
     requires few { saved ≤ 2 }
     requires touched { M.granted mem.old ≡ first_accesses layout.now ++ area_accesses layout.now saved }
     requires reads { AreSomeReads layout.now saved (M.bytes mem.old) }
@@ -127,6 +130,7 @@ fn answer<M: Mem>(layout: &Layout, regs: &mut Regs, mem: &mut M) -> RtTurn
 
 /// What was saved last is dealt with: nothing that is noted, a vector, or a page fault.
 fn handle<M: Mem>(layout: &Layout, mem: &mut M, saved: u32) -> RtTurn
+    requires valid { IsValid layout.now }
     requires saved { (saved ≡ 1) ⊎ (saved ≡ 2) }
     requires touched { M.granted mem.old ≡ first_accesses layout.now ++ area_accesses layout.now saved }
     requires reads { AreSomeReads layout.now saved (M.bytes mem.old) }

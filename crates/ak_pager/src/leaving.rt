@@ -1,5 +1,6 @@
 // The guard, and the step by which the program leaves.
 ghost use Rattle.std.specs.Prelude.{◌≡◌};
+ghost use Rattle.ak_core.specs.Layout.{IsValid};
 ghost use Rattle.ak_pager.specs.Contexts.{step_address};
 ghost use Rattle.ak_pager.specs.Effects.{HasBegun, KeepsMemory, SomeStep, StepsAlways};
 
@@ -20,6 +21,7 @@ const RDI: usize = 7;
 
 /// The guard was resumed in place of the program.
 pub(crate) fn guard<M: Mem>(layout: &Layout, regs: &Regs, mem: &mut M) -> RtTurn
+    requires valid { IsValid layout.now }
     requires begun { HasBegun M.Mem layout.now mem.old }
     requires at { regs.now.rip ≡ step_address layout.now 16 }
     requires some { SomeStep layout.now regs.now (M.holds mem.old) (M.bytes mem.old) }
@@ -39,6 +41,7 @@ pub(crate) fn guard<M: Mem>(layout: &Layout, regs: &Regs, mem: &mut M) -> RtTurn
 
 /// The program calls out; by number 0 it ends. STATE keeps its frame.
 pub(crate) fn leave<M: Mem>(layout: &Layout, regs: &Regs, mem: &mut M) -> RtTurn
+    requires valid { IsValid layout.now }
     requires begun { HasBegun M.Mem layout.now mem.old }
     requires at { regs.now.rip ≡ step_address layout.now 32 }
     requires some { SomeStep layout.now regs.now (M.holds mem.old) (M.bytes mem.old) }

@@ -1,5 +1,6 @@
 // Pages and addresses of the runtime.
 ghost use Rattle.std.specs.Prelude.{◌≡◌, ℕ, ◌<◌, ◌≤◌, ◌+◌, ◌*◌, ◌^◌};
+ghost use Rattle.ak_core.specs.Layout.{IsValid};
 ghost use Rattle.ak_model.specs.Paging.Pages.{pages, all_pages, code_page, ssa_page, state_page};
 ghost use Rattle.ak_pager.specs.Contexts.{step_address};
 
@@ -12,13 +13,15 @@ pub(crate) const PAGE: u64 = PAGE_SIZE as u64;
 pub(crate) fn pages(layout: &Layout) -> u32
     ensures pages { result ≡ pages layout.now }
     ensures few { result ≤ 512 }
+    ensures valid { IsValid layout.now }
 {
     layout.perms().len() as u32
 }
 
 /// The page of the runtime's steps.
 pub(crate) fn code(layout: &Layout) -> Page
-    ensures { result.0 ≡ code_page layout.now }
+    ensures page { result.0 ≡ code_page layout.now }
+    ensures valid { IsValid layout.now }
 {
     Page(ak_core::code_page(pages(layout)))
 }

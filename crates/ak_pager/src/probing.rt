@@ -1,5 +1,6 @@
 // The steps that find out whether the pages of the cluster that was asked for are there.
 ghost use Rattle.std.specs.Prelude.{◌≡◌, ℕ, ◌<◌, ◌++◌, ◌∷◌, [], Option, option_map, slice_get};
+ghost use Rattle.ak_core.specs.Layout.{IsValid};
 ghost use Rattle.ak_core.specs.Mem.{access_to};
 ghost use Rattle.ak_core.specs.declared.page.Page.{Page as ThePage};
 ghost use Rattle.ak_core.specs.declared.registers.Regs.{Regs as TheRegs};
@@ -75,6 +76,7 @@ pub(crate) fn probe<M: Mem>(
     regs: &mut Regs,
     mem: &mut M,
 ) -> Result<RtTurn, Fault>
+    requires valid { IsValid layout.now }
     requires begun { HasBegun M.Mem layout.now mem.old }
     requires at { regs.old.rip ≡ step_address layout.now 48 }
     requires some { SomeStep layout.now regs.old (M.holds mem.old) (M.bytes mem.old) }
