@@ -44,11 +44,11 @@ not-false true b e h = absurd (cc)
 -- ---- Numbers that differ
 
 differs-by : (a b : ℕ) (t : Bool) → (a ≡ b → ⊥) → (a == b) ≡ t → t ≡ false
-differs-by a b true no e = absurd (no (eqb-true a b e))
-differs-by a b false no e = refl
+differs-by a b true apart e = absurd (apart (eqb-true a b e))
+differs-by a b false apart e = refl
 
 pub differs : (a b : ℕ) → (a ≡ b → ⊥) → (a == b) ≡ false
-differs a b no = differs-by a b (a == b) no refl
+differs a b apart = differs-by a b (a == b) apart refl
 
 -- ---- What was noted
 

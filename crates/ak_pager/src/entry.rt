@@ -75,7 +75,7 @@ fn enter_by<M: Mem>(layout: &Layout, regs: &mut Regs, mem: &mut M, saved: u32) -
     requires few { saved ≤ 2 }
     requires touched { M.granted mem.old ≡ first_accesses layout.now ++ area_accesses layout.now saved }
     requires reads { AreSomeReads layout.now saved (M.bytes mem.old) }
-    requires opens { saved ≡ 0 → (r : Reads) → AreReads layout.now saved (M.bytes mem.old) r → opens r.phase ≡ true }
+    requires opens { saved ≡ 0 → (r : Reads) × AreReads layout.now saved (M.bytes mem.old) r × (opens r.phase ≡ true) }
     ensures row { (r : Reads) → AreReads layout.now saved (M.bytes mem.old) r →
         Performs layout.now (entry_row layout.now r saved (reg_of regs.old rdi) r.phase) (M.bytes mem.old) (M.bytes mem.new) result regs.new }
     ensures stays { KeepsAccesses M.Mem mem.old mem.new }

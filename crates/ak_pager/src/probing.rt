@@ -11,7 +11,7 @@ ghost use Rattle.ak_pager.specs.Contexts.{IsAtStep, step_address};
 ghost use Rattle.ak_pager.specs.Rows.{Reads, finish_row};
 ghost use Rattle.ak_pager.specs.StepsTo.{Performs};
 ghost use Rattle.ak_pager.specs.declared.turn.RtTurn.{RtTurn as TheTurn};
-ghost use Rattle.ak_pager.specs.Effects.{AreReads, AreSomeReads, HasBegun, KeepsAccesses, KeepsMemory, SomeStep, StepsAlways, TouchesAll, area_accesses, first_accesses, turn_of};
+ghost use Rattle.ak_pager.specs.Effects.{AreReads, HasBegun, KeepsAccesses, KeepsMemory, SomeStep, StepsAlways, TouchesAll, area_accesses, first_accesses, turn_of};
 
 use crate::RtTurn;
 use crate::effects::{load_phase, load_state, set_area, store_state};
@@ -102,8 +102,9 @@ pub(crate) fn probe<M: Mem>(
 
 /// The cluster is in: the program's frame goes back into its area, with nothing noted.
 fn finish<M: Mem>(layout: &Layout, mem: &mut M, cluster: u32) -> RtTurn
+    requires valid { IsValid layout.now }
     requires touched { M.granted mem.old ≡ first_accesses layout.now ++ area_accesses layout.now 1 }
-    requires reads { AreSomeReads layout.now 0 (M.bytes mem.old) }
+    requires reads { (r : Reads) × AreReads layout.now 0 (M.bytes mem.old) r × (r.phase ≡ Asked cluster) }
     ensures row { (r : Reads) (regs : TheRegs) → AreReads layout.now 0 (M.bytes mem.old) r → r.phase ≡ Asked cluster →
         Performs layout.now (finish_row r r.phase) (M.bytes mem.old) (M.bytes mem.new) result regs }
     ensures stays { KeepsAccesses M.Mem mem.old mem.new }

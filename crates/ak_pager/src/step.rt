@@ -49,7 +49,7 @@ fn step<M: Mem>(layout: &Layout, regs: &mut Regs, mem: &mut M) -> Result<RtTurn,
     if regs.rip == places::address_of(layout, ENTRY_STEP) {
         enter(layout, regs, mem)
     } else if regs.rip == places::address_of(layout, GUARD_STEP) {
-        Ok(guard(layout, regs, mem))
+        Ok(guard(layout, mem))
     } else if regs.rip == places::address_of(layout, LEAVE_STEP) {
         Ok(leave(layout, regs, mem))
     } else {

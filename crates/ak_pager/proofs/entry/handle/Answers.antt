@@ -7,6 +7,8 @@ use Rattle.ak_model.specs.Paging.Pages.{ssa_page}
 use Rattle.ak_ssa.specs.SavedFrames.{SavedCause, ByPage, area_place, why_of, HasFrame}
 use Rattle.ak_ssa.specs.FramesFit.{FrameFits, CauseFits}
 use Rattle.ak_ssa.proofs.Room.{room}
+use Rattle.ak_core.specs.declared.moves.Exit.{Exit}
+use Rattle.ak_pager.specs.declared.turn.RtTurn.{RtTurn}
 use Rattle.ak_pager.specs.Rows.{Reads, saved_row}
 use Rattle.ak_pager.specs.StepsTo.{Performs}
 use Rattle.ak_pager.specs.Effects.{AreReads}
@@ -39,7 +41,7 @@ returns-in-Interrupt-clause-row g c r regs reads =
     let why : c.why.result ≡ why_of layout r.saved.cause =
         c.why.ensures.saved r.saved.regs (why_of layout r.saved.cause) fits.words (why_fits layout (room layout c.requires.valid) r.saved.cause fits.cause) (c.area_frame-newest.ensures ∙ n.0) in
     let noted = none_noted layout r.saved.cause (sym c.in-Interrupt.is ∙ why) in
-    subst (λ (cause : SavedCause). Performs layout (saved_row layout r c.args.saved cause) old old _ regs) (sym noted)
+    subst (λ (cause : SavedCause). Performs layout (saved_row layout r c.args.saved cause) old old (RtTurn.Leave Exit.Nothing) regs) (sym noted)
     (record { ends = refl; state = refl; areas = λ i l. refl; others = λ p differs area. refl })
 
 pub returns-in-Vector-clause-row : goal.returns-in-Vector-clause-row
