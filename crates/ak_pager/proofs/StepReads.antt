@@ -106,12 +106,12 @@ module _ (layout : Layout) (valid : IsValid layout) (control : Control) (context
           newest = reads_newest;
         }
 
-    -- and something is read, where nothing is saved
-    pub some_reads : AreSomeReads layout 0 bytes
+    -- and something is read, of this phase, where nothing is saved
+    pub some_reads : (r : Reads) × AreReads layout 0 bytes r × (r.phase ≡ control.phase)
     some_reads =
         let state = state_in held in
         let kept = kept_in layout control.phase flat (bytes (state_page layout)) (some_frame regs) state.kept in
-        (reads_of layout control.phase control.queue bytes kept.0 (some_frame regs), reads 0 kept.0 (some_frame regs) kept.1 (λ k e. absurd (omega arith)))
+        (reads_of layout control.phase control.queue bytes kept.0 (some_frame regs), reads 0 kept.0 (some_frame regs) kept.1 (λ k e. absurd (omega arith)), refl)
 
     -- or some contexts are
     pub some_reads_saved : (k : ℕ) → length control.stack ≡ suc k → holds (ssa_page layout k) ≡ true → AreSomeReads layout (suc k) bytes

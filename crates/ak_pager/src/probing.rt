@@ -40,6 +40,7 @@ pub(crate) fn probe_at(layout: &Layout, regs: &mut Regs, number: u64) -> RtTurn
 
 /// The page of this number among those of a cluster, in ascending order.
 fn page_of(layout: &Layout, cluster: u32, number: u64) -> Option<Page>
+    requires { IsValid layout.now }
     ensures { result ≡ option_map (λ p. record { 0 = p }) (slice_get (pages_of layout.now cluster) number) }
 {
     let mut earlier = 0;
