@@ -6,7 +6,7 @@ use Rattle.ak_model.specs.Control.ControlState.{Ended, Calling}
 use Rattle.ak_model.specs.Flat.Instructions.{reg_of, rsi, rdi}
 use Rattle.ak_ssa.specs.SavedFrames.{frame_bytes}
 use Rattle.ak_pager.specs.declared.turn.RtTurn.{RtTurn}
-use Rattle.ak_pager.specs.Rows.{AreasStay, LeavesWith, Reads, StateSets, leave_row, left_frame}
+use Rattle.ak_pager.specs.Rows.{AreasStay, LeavesWith, Reads, Row, StateSets, leave_row, left_frame}
 use Rattle.ak_pager.specs.StepsTo.{Performs}
 use Rattle.ak_pager.proofs.Changing.{performs}
 use Rattle.ak_pager.proofs.leaving.leave.Goals as goal
@@ -23,7 +23,7 @@ returns-then-number-eq0-clause-row g c r after reads =
 
 -- a call with another number
 calls : (layout : Layout) (r : Reads) (regs : Regs) (b a : ℕ) (old new : ℕ → List ℕ) (after : Regs) → (b ≡ 0 → ⊥) →
-    (let row = record { state = StateSets Calling r.queue (frame_bytes layout (left_frame regs)); areas = AreasStay; ends = LeavesWith (Exit.Call b a) } in
+    (let row : Row = record { state = StateSets Calling r.queue (frame_bytes layout (left_frame regs)); areas = AreasStay; ends = LeavesWith (Exit.Call b a) } in
     Performs layout row old new (RtTurn.Leave (Exit.Call b a)) after) → Performs layout (leave_row layout r regs b a) old new (RtTurn.Leave (Exit.Call b a)) after
 calls layout r regs zero a old new after no h = absurd (no refl)
 calls layout r regs (suc b) a old new after no h = h
