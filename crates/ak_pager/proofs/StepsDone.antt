@@ -1,12 +1,12 @@
 -- From a row that was performed, or an access that was refused, to a step.
-use Rattle.std.proofs.Common.{◌≡◌, ℕ, zero, suc, ◌+◌, ◌<◌, ◌≤◌, List, [], ◌∷◌, ◌++◌, length, refl, ap, sym, ◌∙◌, subst, arith}
+use Rattle.std.proofs.Common.{◌≡◌, ℕ, zero, suc, ◌+◌, ◌<◌, ◌≤◌, List, [], ◌∷◌, ◌++◌, length, drop, refl, ap, sym, ◌∙◌, subst, arith}
 use Rattle.std.specs.Prelude.{Bool, true, All, Option, Some, None}
 use Rattle.ak_core.specs.Layout.{Layout, IsValid}
 use Rattle.std.proofs.lemmas.List.Elements.{All-head, All-tail}
 use Rattle.ak_core.specs.Mem.{Access, access_to}
-use Rattle.ak_core.specs.declared.page.Kind.TheVariants.{Write}
+use Rattle.ak_core.specs.declared.page.Kind.TheVariants.{Write, Exec}
 use Rattle.ak_core.specs.declared.registers.Regs.{Regs}
-use Rattle.ak_model.specs.Paging.Pages.{ssa_page, state_page}
+use Rattle.ak_model.specs.Paging.Pages.{code_page, ssa_page, state_page}
 use Rattle.ak_model.specs.Flat.FlatRuns.{Flat}
 use Rattle.ak_model.specs.Flat.Instructions.{reg_of, rax, rdi, rsi}
 use Rattle.ak_model.specs.Control.ControlState.{Phase, Context, Enter, Probe, Finish, Guard, Leave, Control}
@@ -46,6 +46,21 @@ saved_by : (layout : Layout) (old : ℕ → List ℕ) (k v : ℕ) (frame : Saved
 saved_by layout old zero v frame reads j e = absurd (omega arith)
 saved_by layout old (suc k) v frame reads j e =
     let same : k ≡ j = omega arith in subst (λ (n : ℕ). HasFrame layout area_place (old (ssa_page layout n)) frame × FrameFits layout frame) same reads
+
+-- the first touch was refused
+pub code_faulted : (layout : Layout) (regs : Regs) (holds : ℕ → Bool) (old new : ℕ → List ℕ) (granted : List Access) (refused : Option Access) (f : Access) → granted ≡ [] → f ≡ access_to (code_page layout) Exec →
+    refused ≡ Some f → new ≡ old → StepsAlways layout regs holds old new granted refused (RtTurn.Faulted f) regs
+code_faulted layout regs holds old new granted refused f none is refused_is bytes control context flat may =
+    steps_faulted layout control context regs old new granted refused (RtTurn.Faulted f) regs f refused_is (drop 1 (accesses layout control context))
+    (ap (λ (l : List Access). l ++ f ∷ drop 1 (accesses layout control context)) none ∙ ap (λ (t : Access). t ∷ drop 1 (accesses layout control context)) is) bytes refl refl
+
+-- or the second
+pub state_faulted : (layout : Layout) (regs : Regs) (holds : ℕ → Bool) (old new : ℕ → List ℕ) (granted : List Access) (refused : Option Access) (f : Access) → granted ≡ access_to (code_page layout) Exec ∷ [] →
+    f ≡ access_to (state_page layout) Write → refused ≡ Some f → new ≡ old → StepsAlways layout regs holds old new granted refused (RtTurn.Faulted f) regs
+state_faulted layout regs holds old new granted refused f one is refused_is bytes control context flat may =
+    steps_faulted layout control context regs old new granted refused (RtTurn.Faulted f) regs f refused_is (drop 2 (accesses layout control context))
+    (ap (λ (l : List Access). l ++ f ∷ drop 2 (accesses layout control context)) one
+    ∙ ap (λ (t : Access). access_to (code_page layout) Exec ∷ t ∷ drop 2 (accesses layout control context)) is) bytes refl refl
 
 -- an entry whose touch was refused
 pub entry_faulted : (layout : Layout) (regs : Regs) (holds : ℕ → Bool) (old new : ℕ → List ℕ) (granted : List Access) (refused : Option Access) (turn : RtTurn) (after : Regs) (f : Access) →

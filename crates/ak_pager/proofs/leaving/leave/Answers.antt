@@ -25,8 +25,8 @@ returns-then-number-eq0-clause-row g c r after reads =
 calls : (layout : Layout) (r : Reads) (regs : Regs) (b a : ℕ) (old new : ℕ → List ℕ) (after : Regs) → (b ≡ 0 → ⊥) →
     (let row : Row = record { state = StateSets Calling r.queue (frame_bytes layout (left_frame regs)); areas = AreasStay; ends = LeavesWith (Exit.Call b a) } in
     Performs layout row old new (RtTurn.Leave (Exit.Call b a)) after) → Performs layout (leave_row layout r regs b a) old new (RtTurn.Leave (Exit.Call b a)) after
-calls layout r regs zero a old new after no h = absurd (no refl)
-calls layout r regs (suc b) a old new after no h = h
+calls layout r regs zero a old new after other h = absurd (other refl)
+calls layout r regs (suc b) a old new after other h = h
 
 pub returns-clause-row : goal.returns-clause-row
 returns-clause-row g c r after reads =
