@@ -15,7 +15,7 @@ use Rattle.ak_ssa.specs.SavedRegisters.{AreRegs}
 use Rattle.ak_ssa.specs.FramesFit.{FrameFits}
 use Rattle.ak_pager.specs.Rows.{Reads}
 use Rattle.ak_pager.specs.RuntimePages.{OfCopy, SaysMore, IsArea, AreasStand, KeepsFrame, IsState}
-use Rattle.ak_pager.specs.StepsTo.{IsAskedFor, HasVector, memory_of, MayStep, ReadsKept, ReadsSaved, reads_of}
+use Rattle.ak_pager.specs.StepsTo.{IsAskedFor, memory_of, MayStep, ReadsKept, ReadsSaved, reads_of}
 use Rattle.ak_pager.specs.Remembered.{PhaseIsSmall, SaysPhase}
 use Rattle.ak_pager.specs.Effects.{AreReads, AreSomeReads}
 
@@ -41,14 +41,14 @@ known_below m (x ∷ queue) le h =
     let first : x < m = All-head (λ c. c < m) x queue h in
     All-cons (λ c. c < 512) x queue (omega arith) (known_below m queue le (All-tail (λ c. c < m) x queue h))
 
-phase_small : (layout : Layout) (queue : List ℕ) (phase : Phase) → layout.clusters ≤ 512 → IsAskedFor layout queue phase → HasVector phase → PhaseIsSmall phase
-phase_small layout queue New le asked vector = tt
-phase_small layout queue Running le asked vector = tt
-phase_small layout queue Calling le asked vector = tt
-phase_small layout queue (Asked c) le asked vector = let l = asked.0 in omega arith
-phase_small layout queue (Ended s) le asked vector = tt
-phase_small layout queue (Trapped v) le asked vector = omega (arith, vector)
-phase_small layout queue Dead le asked vector = tt
+phase_small : (layout : Layout) (queue : List ℕ) (phase : Phase) → layout.clusters ≤ 512 → IsAskedFor layout queue phase → PhaseIsSmall phase
+phase_small layout queue New le asked = tt
+phase_small layout queue Running le asked = tt
+phase_small layout queue Calling le asked = tt
+phase_small layout queue (Asked c) le asked = let l = asked.0 in omega arith
+phase_small layout queue (Ended s) le asked = tt
+phase_small layout queue (Trapped v) le asked = tt
+phase_small layout queue Dead le asked = tt
 
 -- ---- Frames
 
@@ -95,7 +95,7 @@ module _ (layout : Layout) (valid : IsValid layout) (control : Control) (context
           phase = record {
             number = state.phase_is;
             more = state.more;
-            small = phase_small layout control.queue control.phase (few_clusters layout valid) may.asked may.vector;
+            small = phase_small layout control.queue control.phase (few_clusters layout valid) may.asked;
           };
           asked = may.asked;
           queue = record { size = state.size; clusters = state.clusters };

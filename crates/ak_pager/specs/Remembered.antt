@@ -18,10 +18,9 @@ phase_of (CodePhase.Ended s) = Ended s
 phase_of (CodePhase.Trapped v) = Trapped v
 phase_of CodePhase.Dead = Dead
 
--- a cluster is a number of 32 bits, and a vector one of 8
+-- a cluster that is asked for is a number of 32 bits
 abbrev pub PhaseIsSmall : Phase → Type 0
 PhaseIsSmall (Asked c) = c < 2 ^ 32
-PhaseIsSmall (Trapped v) = v < 2 ^ 8
 PhaseIsSmall _ = Unit {0}
 
 -- the bytes say this phase

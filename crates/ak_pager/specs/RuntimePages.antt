@@ -1,5 +1,5 @@
 -- What the bytes of saved-state areas and STATE say. (SDM volume 3D, "State Save Area"; STATE is this project's own.)
-use Rattle.std.specs.Prelude.{◌≡◌, ℕ, ◌+◌, ◌*◌, List, [], ◌∷◌, length, slice_get, Option, Some, None}
+use Rattle.std.specs.Prelude.{◌≡◌, ℕ, ◌+◌, ◌*◌, ◌<◌, List, [], ◌∷◌, length, slice_get, Option, Some, None}
 use Rattle.ak_core.specs.Layout.{Layout}
 use Rattle.ak_model.specs.Paging.Pages.{ssa_page}
 use Rattle.ak_model.specs.Flat.FlatRuns.{Flat}
@@ -48,11 +48,11 @@ phase_number (Ended s) = 4
 phase_number (Trapped v) = 5
 phase_number Dead = 6
 
--- what a phase says besides: the cluster that is asked for, the status, or the vector
+-- what a phase says besides: the cluster that is asked for, the status, or the vector, which has 8 bits
 abbrev pub SaysMore : Phase → List ℕ → Type 0
 SaysMore (Asked c) bytes = number_at bytes 8 8 ≡ c
 SaysMore (Ended s) bytes = number_at bytes 16 8 ≡ s
-SaysMore (Trapped v) bytes = number_at bytes 16 8 ≡ v
+SaysMore (Trapped v) bytes = (number_at bytes 16 8 ≡ v) × (v < 256)
 SaysMore _ bytes = Unit {0}
 
 -- the frame that STATE keeps has the program's registers

@@ -9,7 +9,7 @@ use Rattle.ak_model.specs.Paging.Pages.{ssa_page, state_page}
 use Rattle.ak_model.specs.Clusters.Queue.{is_in}
 use Rattle.ak_model.specs.Flat.Instructions.{reg_of, rcx, number_at}
 use Rattle.ak_model.specs.Flat.FlatRuns.{Flat}
-use Rattle.ak_model.specs.Control.ControlState.{Phase, Calling, Asked, Trapped, Context, Program, Enter, Reason, Raised, Denied, Missed, Broke, Faulted, Saved, Control}
+use Rattle.ak_model.specs.Control.ControlState.{Phase, Calling, Asked, Context, Program, Enter, Reason, Raised, Denied, Missed, Broke, Faulted, Saved, Control}
 use Rattle.ak_model.specs.Control.RuntimeTurn.{accesses}
 use Rattle.ak_model.specs.Laws.StepRows.{HasRow}
 use Rattle.ak_model.specs.Laws.Orderly.{IsDistinct}
@@ -47,11 +47,6 @@ abbrev pub IsAskedFor : Layout → List ℕ → Phase → Type 0
 IsAskedFor layout queue (Asked c) = (c < layout.clusters) × (is_in queue c ≡ false)
 IsAskedFor layout queue _ = Unit {0}
 
--- a vector is a number of 8 bits
-abbrev pub HasVector : Phase → Type 0
-HasVector (Trapped v) = v < 256
-HasVector _ = Unit {0}
-
 -- the pages that a memory holds, with their bytes
 abbrev pub memory_of : (ℕ → Bool) → (ℕ → List ℕ) → Copies
 memory_of holds bytes p = then_some (holds p) (bytes p)
@@ -65,7 +60,6 @@ pub record MayStep (layout : Layout) (control : Control) (context : Context) (fl
   pub distinct : IsDistinct control.queue
   pub known : All (λ c. c < layout.clusters) control.queue
   pub asked : IsAskedFor layout control.queue control.phase
-  pub vector : HasVector control.phase
   pub registers : Gives layout control.phase flat context regs
   pub state : OfCopy (memory (state_page layout)) (IsState layout control.phase control.queue flat)
   pub areas : AreasStand layout control.phase control.queue flat memory control.stack

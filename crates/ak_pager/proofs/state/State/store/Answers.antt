@@ -14,7 +14,7 @@ same_more Running xs ys e h = tt
 same_more Calling xs ys e h = tt
 same_more (Asked c) xs ys e h = ap le_value (front_part 8 8 24 xs ys (omega arith) e) ∙ h
 same_more (Ended s) xs ys e h = ap le_value (front_part 8 16 24 xs ys (omega arith) e) ∙ h
-same_more (Trapped v) xs ys e h = ap le_value (front_part 8 16 24 xs ys (omega arith) e) ∙ h
+same_more (Trapped v) xs ys e h = (ap le_value (front_part 8 16 24 xs ys (omega arith) e) ∙ h.0, h.1)
 same_more Dead xs ys e h = tt
 
 pub returns : goal.returns
