@@ -1,1 +1,1 @@
-pub mod TestPages
+pub mod ElevenPages

@@ -1,26 +1,25 @@
-// A memory of pages that refuses one touch.
-ghost use Rattle.std.specs.Prelude.{◌≡◌, ◌<◌, ◌≤◌, ◌+◌, true, length, nat_lt};
+// A memory of eleven pages.
+ghost use Rattle.std.specs.Prelude.{◌≡◌, ◌<◌, ◌≤◌, ◌+◌, true, length};
 ghost use Rattle.ak_core.specs.Mem.{Touches, access_to, put_at};
-ghost use Rattle.ak_pager_tests.specs.TestPages.{are_inside, are_whole};
+ghost use Rattle.ak_pager_tests.specs.ElevenPages.{are_inside, are_whole, is_held};
 
 use ak_core::{Fault, Kind, Mem, Page};
 use arrayvec::ArrayVec;
 
-/// Pages, the first of which has the number 0, and the number of the touch that is refused in a turn.
+/// Eleven pages, and the number of the touch that is refused in a turn.
 #[derive(Drop)]
 pub struct Pages {
-    pages: Vec<[u8; 4096]>,
+    pages: [[u8; 4096]; 11],
     refuses: usize,
     granted: ArrayVec<Fault, 4>,
     refused: Option<Fault>,
-    ghost whole: { are_whole pages.items ≡ true },
-    ghost inside: { are_inside (length pages.items) granted.items ≡ true },
+    ghost count: { length pages ≡ 11 },
+    ghost whole: { are_whole pages ≡ true },
+    ghost inside: { are_inside granted.items ≡ true },
 }
 
 impl Pages {
-    pub fn new(pages: Vec<[u8; 4096]>, refuses: usize) -> Self
-        ensures { result.pages.items ≡ pages.items }
-    {
+    pub fn new(pages: [[u8; 4096]; 11], refuses: usize) -> Self {
         Pages {
             pages,
             refuses,
@@ -30,7 +29,7 @@ impl Pages {
     }
 
     /// The pages.
-    pub fn pages(&self) -> &[[u8; 4096]] {
+    pub fn pages(&self) -> &[[u8; 4096]; 11] {
         &self.pages
     }
 
@@ -41,12 +40,13 @@ impl Pages {
 
     fn touch(&mut self, page: Page, kind: Kind) -> Result<(), Fault>
         requires few { length self.old.granted.items < 4 }
-        ensures touch { Touches (access_to page.0 kind) result (λ p. nat_lt p (length self.old.pages.items)) self.old.granted.items
+        ensures touch { Touches (access_to page.0 kind) result is_held self.old.granted.items
             self.new.granted.items self.old.refused self.new.refused }
         ensures pages { self.new.pages ≡ self.old.pages }
+        ensures refuses { self.new.refuses ≡ self.old.refuses }
     {
         let access = Fault { page, kind };
-        if page.0 as usize >= self.pages.len() || self.granted.len() == self.refuses {
+        if page.0 >= 11 || self.granted.len() == self.refuses {
             self.refused = Some(access);
             return Err(access);
         }
@@ -64,23 +64,23 @@ fn put_slice(page: &mut [u8; 4096], start: usize, from: &[u8])
 }
 
 impl Mem for Pages {
-    ghost use Rattle.ak_pager_tests.specs.TestPages.{KeepsNumber, keeps_number-self, keeps_number-on, page_of, length-page_of};
+    ghost use Rattle.ak_pager_tests.specs.ElevenPages.{KeepsRefusing, keeps_refusing-self, keeps_refusing-on, page_of, length-page_of, is_held};
 
-    ghost holds = { λ m p. nat_lt p (length m.pages.items) };
+    ghost holds = { λ m p. is_held p };
 
-    ghost bytes = { λ m p. page_of m.pages.items p };
+    ghost bytes = { λ m p. page_of m.pages p };
 
     ghost granted = { λ m. m.granted.items };
 
     ghost refused = { λ m. m.refused };
 
-    ghost keeps = { λ a b. KeepsNumber a.pages.items b.pages.items };
+    ghost keeps = { λ a b. KeepsRefusing a.refuses b.refuses };
 
-    ghost keeps_self = { λ a. keeps_number-self a.pages.items };
+    ghost keeps_self = { λ a. keeps_refusing-self a.refuses };
 
-    ghost keeps_on = { λ a b c first then. keeps_number-on a.pages.items b.pages.items c.pages.items first then };
+    ghost keeps_on = { λ a b c first then. keeps_refusing-on a.refuses b.refuses c.refuses first then };
 
-    ghost whole = { λ m p. length-page_of m.pages.items p m.whole };
+    ghost whole = { λ m p. length-page_of m.pages p m.whole };
 
     fn begin(&mut self) {
         self.granted.clear();

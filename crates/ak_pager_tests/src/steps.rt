@@ -225,27 +225,22 @@ const KEPT: Regs = Regs {
 #[derive(Drop)]
 struct Row {
     regs: Regs,
-    pages: Vec<[u8; 4096]>,
+    pages: [[u8; 4096]; 11],
     ending: &'static str,
-    after: Vec<[u8; 4096]>,
+    after: [[u8; 4096]; 11],
 }
 
 /// Eleven pages, of which STATE has these bytes, and the areas these.
-fn pages(rt: &HostRuntime, areas: &[[u8; 4096]; 3], state: [u8; 4096]) -> Result<Vec<[u8; 4096]>, Fail> {
-    let mut pages = Vec::new(rt.alloc());
-    for i in 0..11u8 {
-        pages.push(match i {
-            6 => areas[0],
-            7 => areas[1],
-            8 => areas[2],
-            9 => state,
-            _ => [i; 4096],
-        })?;
+fn pages(areas: &[[u8; 4096]; 3], state: [u8; 4096]) -> [[u8; 4096]; 11] {
+    let mut pages = [[1; 4096]; 11];
+    for (i, area) in areas.iter().enumerate() {
+        pages[6 + i] = *area;
     }
-    Ok(pages)
+    pages[9] = state;
+    pages
 }
 
-fn read_row(rt: &HostRuntime, line: &'static str) -> Result<Row, Fail> {
+fn read_row(line: &'static str) -> Result<Row, Fail> {
     let mut columns = line.split('|');
     let regs = at_step(columns.next().unwrap_or(""))?;
     let mut state = [7u8; 4096];
@@ -258,7 +253,7 @@ fn read_row(rt: &HostRuntime, line: &'static str) -> Result<Row, Fail> {
             save(&mut areas[i], &its_regs, its_why);
         }
     }
-    let before = pages(rt, &areas, state)?;
+    let before = pages(&areas, state);
     let ending = columns.next().unwrap_or("").trim();
     put_state(&mut state, columns.next().unwrap_or(""), columns.next().unwrap_or(""))?;
     if ending.starts_with("Leave(Ask") {
@@ -281,7 +276,7 @@ fn read_row(rt: &HostRuntime, line: &'static str) -> Result<Row, Fail> {
         regs,
         pages: before,
         ending,
-        after: pages(rt, &areas, state)?,
+        after: pages(&areas, state),
     })
 }
 
@@ -332,14 +327,12 @@ fn goes_on(line: &str, before: Regs) -> Regs {
 fn does_each_row(rt: HostRuntime) -> Result<(), Fail> {
     let layout = five_pages(&rt)?;
     for line in ROWS.lines() {
-        let row = read_row(&rt, line)?;
+        let row = read_row(line)?;
         let mut regs = row.regs;
         let mut mem = Pages::new(row.pages, 4);
         let turn = runtime_turn(&layout, &mut regs, &mut mem);
         assert_eq!(rt; format!(in rt.alloc(); "{turn:?}")?.as_str(), row.ending, "{line}");
-        for (page, after) in mem.pages().iter().zip(&row.after) {
-            assert!(rt; page == after, "{line}");
-        }
+        assert!(rt; *mem.pages() == row.after, "{line}");
         let mut touched = mem.granted().iter();
         for access in accesses(line) {
             assert!(rt; touched.next().copied() == access, "{line}");
@@ -360,16 +353,14 @@ fn faults_at_each_touch(rt: HostRuntime) -> Result<(), Fail> {
             let Some(access) = *access else {
                 break;
             };
-            let row = read_row(&rt, line)?;
-            let before = row.pages.clone()?;
+            let row = read_row(line)?;
+            let before = row.pages;
             let mut regs = row.regs;
             let mut mem = Pages::new(row.pages, k);
             let turn = runtime_turn(&layout, &mut regs, &mut mem);
             assert!(rt; turn == RtTurn::Faulted(access), "{line}");
             assert_eq!(rt; regs, row.regs, "{line}");
-            for (page, same) in mem.pages().iter().zip(&before) {
-                assert!(rt; page == same, "{line}");
-            }
+            assert!(rt; *mem.pages() == before, "{line}");
         }
     }
     Ok(())

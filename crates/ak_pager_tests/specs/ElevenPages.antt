@@ -1,4 +1,4 @@
--- The memory of pages that the tests use.
+-- The memory of eleven pages that the tests use.
 use Rattle.std.specs.Prelude.{◌≡◌, ℕ, zero, suc, Bool, true, false, ◌&&◌, List, [], ◌∷◌, refl, length, replicate, nat_lt, slice_index_or, ◌==◌}
 use Rattle.std.specs.List.{list_all}
 use Rattle.std.proofs.Common.{◌∙◌}
@@ -6,7 +6,7 @@ use Rattle.std.proofs.lemmas.List.{length-replicate}
 use Rattle.std.proofs.lemmas.Bool.{eqb-true}
 use Rattle.ak_core.specs.Mem.{Access}
 
--- a page of zeros, which stands for each page that there is not
+-- a page of zeros, which stands for each page after the eleventh
 pub blank_page : List ℕ
 blank_page = replicate 4096 0
 
@@ -32,18 +32,22 @@ length-page_of [] p h = length-blank_page
 length-page_of (page ∷ pages) zero h = eqb-true _ _ (both (length page == 4096) (are_whole pages) h).0
 length-page_of (page ∷ pages) (suc p) h = length-page_of pages p (both (length page == 4096) (are_whole pages) h).1
 
--- the accesses are of so many pages
-abbrev pub are_inside : ℕ → List Access → Bool
-are_inside n accesses = list_all (λ t. nat_lt t.page.0 n) accesses
+-- one of the eleven pages
+abbrev pub is_held : ℕ → Bool
+is_held p = nat_lt p 11
 
--- as many pages as before
-abbrev pub KeepsNumber : List (List ℕ) → List (List ℕ) → Type 0
-KeepsNumber pages pages' = length pages' ≡ length pages
+-- the accesses are of these pages
+abbrev pub are_inside : List Access → Bool
+are_inside accesses = list_all (λ t. nat_lt t.page.0 11) accesses
+
+-- the touch that is refused stays the same
+abbrev pub KeepsRefusing : ℕ → ℕ → Type 0
+KeepsRefusing n n' = n' ≡ n
 
 -- from a state to itself
-pub keeps_number-self : (pages : List (List ℕ)) → KeepsNumber pages pages
-keeps_number-self pages = refl
+pub keeps_refusing-self : (n : ℕ) → KeepsRefusing n n
+keeps_refusing-self n = refl
 
 -- and over a state between
-pub keeps_number-on : (a b c : List (List ℕ)) → KeepsNumber a b → KeepsNumber b c → KeepsNumber a c
-keeps_number-on a b c first then = then ∙ first
+pub keeps_refusing-on : (a b c : ℕ) → KeepsRefusing a b → KeepsRefusing b c → KeepsRefusing a c
+keeps_refusing-on a b c first then = then ∙ first
