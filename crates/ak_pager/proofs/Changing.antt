@@ -1,5 +1,5 @@
 -- What changes where STATE and areas are written one after another.
-use Rattle.std.proofs.Common.{◌≡◌, ◌≢◌, ◌⊎◌, inl, inr, ℕ, zero, suc, ◌+◌, ◌<◌, List, refl, ap, sym, ◌∙◌, subst, arith}
+use Rattle.std.proofs.Common.{◌≡◌, ◌≢◌, ℕ, zero, suc, ◌<◌, List, refl, sym, ◌∙◌, subst, arith}
 use Rattle.ak_core.specs.Layout.{Layout}
 use Rattle.ak_model.specs.Paging.Pages.{ssa_page, state_page}
 use Rattle.ak_model.specs.Control.ControlState.{Phase}

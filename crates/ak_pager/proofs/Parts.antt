@@ -34,6 +34,7 @@ between front mid rest = drop-front ∙ take-append-le (length mid) mid rest (om
     all : (xs : List ℕ) → take (length xs) xs ≡ xs
     all [] = refl
     all (x ∷ xs) = ap (λ l. x ∷ l) (all xs)
+
     drop-front : take (length mid) (drop (length front) (front ++ (mid ++ rest))) ≡ take (length mid) (mid ++ rest)
     drop-front = ap (λ (j : ℕ). take (length mid) (drop j (front ++ (mid ++ rest)))) (omega arith) ∙ ap (λ l. take (length mid) l) (drop-append-add front (mid ++ rest) 0)
 

@@ -1,16 +1,15 @@
 -- Steps at the place of the probes: a probe, by what was found, or their end.
-use Rattle.std.proofs.Common.{◌≡◌, ℕ, suc, ◌+◌, ◌<◌, ◌≤◌, List, [], ◌∷◌, ◌++◌, length, refl, ap, sym, ◌∙◌, subst, arith}
+use Rattle.std.proofs.Common.{◌≡◌, ℕ, suc, ◌+◌, List, [], ◌∷◌, ◌++◌, length, refl, ap, sym, ◌∙◌, subst, arith}
 use Rattle.std.specs.Prelude.{Bool, true, false, Option, Some, None, slice_get, slice_index}
 use Rattle.ak_core.specs.Layout.{Layout, IsValid}
 use Rattle.ak_core.specs.Mem.{Access, access_to}
 use Rattle.ak_core.specs.declared.page.Kind.TheVariants.{Write}
 use Rattle.ak_core.specs.declared.registers.Regs.{Regs}
-use Rattle.ak_model.specs.Paging.Pages.{pages, pages_of, ssa_page, state_page, strong_kind}
+use Rattle.ak_model.specs.Paging.Pages.{pages_of, ssa_page, state_page, strong_kind}
 use Rattle.ak_model.specs.Flat.FlatRuns.{Flat}
 use Rattle.ak_model.specs.Flat.Instructions.{reg_of, rcx}
 use Rattle.ak_model.specs.Control.ControlState.{Phase, Asked, Context, Probe, Finish, Control, is_asked}
-use Rattle.ak_model.specs.Control.RuntimeTurn.{asked_pages, probed, accesses}
-use Rattle.ak_model.specs.Laws.StepRows.{HasRow}
+use Rattle.ak_model.specs.Control.RuntimeTurn.{asked_pages, probed}
 use Rattle.ak_ssa.specs.SavedFrames.{SavedFrame, area_place, HasFrame}
 use Rattle.ak_ssa.specs.FramesFit.{FrameFits}
 use Rattle.ak_pager.specs.declared.state.Phase.{Phase as CodePhase}

@@ -1,11 +1,11 @@
 -- Which context the registers tell of, where a step is defined.
-use Rattle.std.proofs.Common.{◌≡◌, ℕ, zero, suc, ◌+◌, ◌*◌, sym, ◌∙◌, ap, arith}
+use Rattle.std.proofs.Common.{◌≡◌, ℕ, ap, arith}
 use Rattle.ak_core.specs.Layout.{Layout}
 use Rattle.ak_core.specs.declared.registers.Regs.{Regs}
 use Rattle.ak_model.specs.Flat.FlatRuns.{Flat}
-use Rattle.ak_model.specs.Control.ControlState.{Phase, Context, Program, Enter, Probe, Finish, Guard, Leave, Control}
+use Rattle.ak_model.specs.Control.ControlState.{Context, Program, Enter, Probe, Finish, Guard, Leave, Control}
 use Rattle.ak_model.specs.Laws.StepRows.{HasRow}
-use Rattle.ak_pager.specs.Contexts.{step_address, entry_regs, Gives}
+use Rattle.ak_pager.specs.Contexts.{step_address, Gives}
 
 -- the step of a context, which is none of the program's
 abbrev pub offset_of : Context → ℕ

@@ -1,22 +1,19 @@
 -- What the bytes of STATE and of the areas say, where a step is defined and the memory holds them.
-use Rattle.std.proofs.Common.{◌≡◌, ℕ, zero, suc, ◌+◌, ◌<◌, ◌≤◌, List, [], ◌∷◌, length, refl, ap, sym, ◌∙◌, subst, arith}
-use Rattle.std.specs.Prelude.{Bool, true, false, All, Option, Some, None, nat_lt, ◌==◌, ◌^◌, if◌then◌else◌}
+use Rattle.std.proofs.Common.{◌≡◌, ℕ, suc, ◌+◌, ◌<◌, ◌≤◌, List, [], ◌∷◌, length, refl, subst, arith}
+use Rattle.std.specs.Prelude.{Bool, true, false, All, Some, None, nat_lt, ◌==◌, if◌then◌else◌}
 use Rattle.std.specs.Bool.{then_some}
 use Rattle.std.proofs.lemmas.List.Elements.{All-nil, All-cons, All-head, All-tail}
 use Rattle.ak_core.specs.Layout.{Layout, IsValid, number_on, numbers_from}
 use Rattle.ak_core.specs.declared.registers.Regs.{Regs}
 use Rattle.ak_model.specs.Paging.Pages.{ssa_page, state_page}
 use Rattle.ak_model.specs.Flat.FlatRuns.{Flat}
-use Rattle.ak_model.specs.Control.ControlState.{Phase, New, Running, Calling, Asked, Ended, Trapped, Dead, Context, Program, Enter, Probe, Finish, Guard, Leave, Saved, Control}
-use Rattle.ak_model.specs.Laws.StepRows.{HasRow}
-use Rattle.ak_cluster.specs.QueueBytes.{HasQueue, IsQueue}
-use Rattle.ak_ssa.specs.SavedFrames.{SavedFrame, NoCause, area_place, state_place, HasFrame}
-use Rattle.ak_ssa.specs.SavedRegisters.{AreRegs}
+use Rattle.ak_model.specs.Control.ControlState.{Phase, New, Running, Calling, Asked, Ended, Trapped, Dead, Context, Saved, Control}
+use Rattle.ak_ssa.specs.SavedFrames.{SavedFrame, NoCause, area_place, HasFrame}
 use Rattle.ak_ssa.specs.FramesFit.{FrameFits}
 use Rattle.ak_pager.specs.Rows.{Reads}
-use Rattle.ak_pager.specs.RuntimePages.{OfCopy, SaysMore, IsArea, AreasStand, KeepsFrame, IsState}
-use Rattle.ak_pager.specs.StepsTo.{IsAskedFor, memory_of, MayStep, ReadsKept, ReadsSaved, reads_of}
-use Rattle.ak_pager.specs.Remembered.{PhaseIsSmall, SaysPhase}
+use Rattle.ak_pager.specs.RuntimePages.{OfCopy, IsArea, AreasStand, KeepsFrame, IsState}
+use Rattle.ak_pager.specs.StepsTo.{IsAskedFor, memory_of, MayStep, ReadsKept, reads_of}
+use Rattle.ak_pager.specs.Remembered.{PhaseIsSmall}
 use Rattle.ak_pager.specs.Effects.{AreReads, AreSomeReads}
 
 -- ---- Clusters
@@ -119,6 +116,7 @@ module _ (layout : Layout) (valid : IsValid layout) (control : Control) (context
         let state = state_in held in
         let kept = kept_in layout control.phase flat (bytes (state_page layout)) (some_frame regs) state.kept in
         let area = area_of control.stack k n may.areas held_area in
-        let At : ℕ → Type 0 = λ j. HasFrame layout area_place (bytes (ssa_page layout j)) area.0 × FrameFits layout area.0 in
-        (reads_of layout control.phase control.queue bytes kept.0 area.0,
-         reads (suc k) kept.0 area.0 kept.1 (λ j e. let same : k ≡ j = omega arith in subst At same (area.1, area.2)))
+        let At : ℕ → Type 0 = λ j. HasFrame layout area_place (bytes (ssa_page layout j)) area.0 × FrameFits layout area.0 in (
+          reads_of layout control.phase control.queue bytes kept.0 area.0,
+          reads (suc k) kept.0 area.0 kept.1 (λ j e. let same : k ≡ j = omega arith in subst At same (area.1, area.2)),
+        )

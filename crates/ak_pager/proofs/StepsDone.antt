@@ -1,5 +1,5 @@
 -- From a row that was performed, or an access that was refused, to a step.
-use Rattle.std.proofs.Common.{◌≡◌, ℕ, zero, suc, ◌+◌, ◌<◌, ◌≤◌, List, [], ◌∷◌, ◌++◌, length, drop, refl, ap, sym, ◌∙◌, subst, arith}
+use Rattle.std.proofs.Common.{◌≡◌, ℕ, zero, suc, ◌<◌, ◌≤◌, List, [], ◌∷◌, ◌++◌, drop, refl, ap, sym, ◌∙◌, subst, arith}
 use Rattle.std.specs.Prelude.{Bool, true, All, Option, Some, None}
 use Rattle.ak_core.specs.Layout.{Layout, IsValid}
 use Rattle.std.proofs.lemmas.List.Elements.{All-head, All-tail}
@@ -9,15 +9,15 @@ use Rattle.ak_core.specs.declared.registers.Regs.{Regs}
 use Rattle.ak_model.specs.Paging.Pages.{code_page, ssa_page, state_page}
 use Rattle.ak_model.specs.Flat.FlatRuns.{Flat}
 use Rattle.ak_model.specs.Flat.Instructions.{reg_of, rax, rdi, rsi}
-use Rattle.ak_model.specs.Control.ControlState.{Phase, Context, Enter, Probe, Finish, Guard, Leave, Control}
+use Rattle.ak_model.specs.Control.ControlState.{Context, Enter, Guard, Leave, Control}
 use Rattle.ak_model.specs.Control.RuntimeTurn.{accesses}
 use Rattle.ak_model.specs.Laws.StepRows.{HasRow, opens}
 use Rattle.ak_ssa.specs.SavedFrames.{SavedFrame, area_place, HasFrame}
 use Rattle.ak_ssa.specs.FramesFit.{FrameFits}
 use Rattle.ak_pager.specs.declared.turn.RtTurn.{RtTurn}
-use Rattle.ak_pager.specs.Contexts.{step_address, entry_regs, Gives}
+use Rattle.ak_pager.specs.Contexts.{step_address}
 use Rattle.ak_pager.specs.Rows.{Reads, entry_row, guard_row, leave_row}
-use Rattle.ak_pager.specs.StepsTo.{memory_of, MayStep, Performs, ReadsKept, ReadsSaved, reads_of, WorksBy, StepsTo}
+use Rattle.ak_pager.specs.StepsTo.{memory_of, MayStep, Performs, ReadsSaved, reads_of, WorksBy, StepsTo}
 use Rattle.ak_pager.specs.Effects.{AreReads, AreSomeReads, SomeStep, StepsAlways, area_accesses, first_accesses}
 use Rattle.ak_pager.proofs.StepContexts.{at_entry, at_guard, at_leave}
 use Rattle.ak_pager.proofs.StepReads.{reads, some_reads, some_reads_saved}

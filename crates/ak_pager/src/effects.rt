@@ -13,8 +13,7 @@ ghost use Rattle.ak_pager.specs.Effects.{Changes, KeepsAccesses, OthersStay};
 use crate::places;
 use crate::state::{Phase, State};
 use ak_core::{Layout, Mem, PAGE_SIZE};
-use ak_ssa::frame;
-use ak_ssa::{AREA_PLACE, FRAME_SIZE};
+use ak_ssa::{AREA_PLACE, FRAME_SIZE, frame};
 
 /// What STATE says.
 pub(crate) fn load_state<M: Mem>(layout: &Layout, mem: &M) -> State

@@ -13,16 +13,12 @@ ghost use Rattle.ak_pager.specs.Rows.{AreasStay, GoesWith, Reads, asking, dying,
 ghost use Rattle.ak_pager.specs.StepsTo.{Performs};
 ghost use Rattle.ak_pager.specs.Effects.{AreReads, AreSomeReads, HasBegun, KeepsAccesses, KeepsMemory, SomeStep, StepsAlways, TouchesAll, area_accesses, first_accesses, turn_of};
 
-use crate::RtTurn;
-use crate::effects::{
-    area_frame, end, guard_area, load_phase, load_state, set_phase, store_state,
-};
-use crate::places;
+use crate::effects::{area_frame, end, guard_area, load_phase, load_state, set_phase, store_state};
 use crate::probing::probe_at;
 use crate::state::Phase;
+use crate::{RtTurn, places};
 use ak_core::{Exit, Fault, Kind, Layout, Mem, Mode, Page, Perm, Regs, StopCause};
-use ak_ssa::Why;
-use ak_ssa::frame;
+use ak_ssa::{Why, frame};
 
 /// RAX: how many contexts are saved.
 const RAX: usize = 0;
@@ -51,11 +47,7 @@ fn touch_areas<M: Mem>(layout: &Layout, mem: &mut M, saved: u64) -> Result<(), F
 }
 
 /// An entry: the program begins, its call is answered, the probes begin, or what was saved last is dealt with.
-pub(crate) fn enter<M: Mem>(
-    layout: &Layout,
-    regs: &mut Regs,
-    mem: &mut M,
-) -> Result<RtTurn, Fault>
+pub(crate) fn enter<M: Mem>(layout: &Layout, regs: &mut Regs, mem: &mut M) -> Result<RtTurn, Fault>
     requires valid { IsValid layout.now }
     requires begun { HasBegun M.Mem layout.now mem.old }
     requires at { regs.old.rip ≡ step_address layout.now 0 }
@@ -171,7 +163,12 @@ fn handle_fault<M: Mem>(
         return die(layout, mem, 2, second_cause(layout, access));
     }
     match mode {
-        Mode::Runtime => die(layout, mem, 1, StopCause::RuntimeUnmapped(access.page, access.kind)),
+        Mode::Runtime => die(
+            layout,
+            mem,
+            1,
+            StopCause::RuntimeUnmapped(access.page, access.kind),
+        ),
         Mode::Program => program_fault(layout, mem, access),
     }
 }
@@ -226,7 +223,12 @@ fn program_fault<M: Mem>(layout: &Layout, mem: &mut M, access: Fault) -> RtTurn
     }
     let cluster = cluster_at(layout, access.page);
     if load_state(layout, mem).queue.is_in(cluster) {
-        return die(layout, mem, 1, StopCause::Unmapped(access.page, access.kind));
+        return die(
+            layout,
+            mem,
+            1,
+            StopCause::Unmapped(access.page, access.kind),
+        );
     }
     ask(layout, mem, cluster)
 }

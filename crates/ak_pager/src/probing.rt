@@ -13,10 +13,9 @@ ghost use Rattle.ak_pager.specs.StepsTo.{Performs};
 ghost use Rattle.ak_pager.specs.declared.turn.RtTurn.{RtTurn as TheTurn};
 ghost use Rattle.ak_pager.specs.Effects.{AreReads, HasBegun, KeepsAccesses, KeepsMemory, SomeStep, StepsAlways, TouchesAll, area_accesses, first_accesses, turn_of};
 
-use crate::RtTurn;
 use crate::effects::{load_phase, load_state, set_area, store_state};
-use crate::places;
 use crate::state::Phase;
+use crate::{RtTurn, places};
 use ak_core::{Exit, Fault, Layout, Mem, Mode, Page, Perm, Regs};
 use ak_ssa::frame;
 
@@ -72,11 +71,7 @@ fn touch_strong<M: Mem>(layout: &Layout, mem: &mut M, page: Page) -> Result<(), 
 }
 
 /// Probes a page of the cluster that is asked for; or ends the probes, after the last one.
-pub(crate) fn probe<M: Mem>(
-    layout: &Layout,
-    regs: &mut Regs,
-    mem: &mut M,
-) -> Result<RtTurn, Fault>
+pub(crate) fn probe<M: Mem>(layout: &Layout, regs: &mut Regs, mem: &mut M) -> Result<RtTurn, Fault>
     requires valid { IsValid layout.now }
     requires begun { HasBegun M.Mem layout.now mem.old }
     requires at { regs.old.rip ≡ step_address layout.now 48 }

@@ -1,4 +1,4 @@
-use Rattle.std.proofs.Common.{◌≡◌, ◌-◌, length, ap, arith, take, drop, length-drop, ◌∙◌}
+use Rattle.std.proofs.Common.{◌≡◌, ◌-◌, length, ap, arith, drop, length-drop, ◌∙◌}
 use Rattle.std.proofs.lemmas.List.{length-take-le}
 use Rattle.ak_pager.proofs.effects.area_frame.Goals as goal
 

@@ -1,4 +1,4 @@
-use Rattle.std.proofs.Common.{◌≡◌, ◌⊎◌, inl, inr, ℕ, List, sym, subst, arith}
+use Rattle.std.proofs.Common.{◌≡◌, inl, inr, ℕ, sym, subst}
 use Rattle.ak_model.specs.Paging.Pages.{state_page}
 use Rattle.ak_pager.specs.Rows.{StateSets, AreasGuard, kept_bytes}
 use Rattle.ak_pager.specs.Remembered.{phase_of}

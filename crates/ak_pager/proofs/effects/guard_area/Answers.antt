@@ -1,4 +1,4 @@
-use Rattle.std.proofs.Common.{◌+◌, ◌<◌, arith}
+use Rattle.std.proofs.Common.{arith}
 use Rattle.ak_pager.proofs.effects.guard_area.Goals as goal
 
 pub guard-requires-clause-room : goal.guard-requires-clause-room

@@ -1,6 +1,5 @@
-use Rattle.std.proofs.Common.{◌≡◌, ℕ, List, length, take, drop, ap, sym, subst, ◌∙◌, arith}
-use Rattle.ak_core.specs.Mem.{with_page, put_at}
-use Rattle.ak_model.specs.Paging.Pages.{ssa_page}
+use Rattle.std.proofs.Common.{◌≡◌, ℕ, length, ap, sym, ◌∙◌, arith}
+use Rattle.ak_core.specs.Mem.{put_at}
 use Rattle.ak_pager.specs.Rows.{area_bytes}
 use Rattle.ak_pager.proofs.Parts.{put_at_read}
 use Rattle.ak_pager.proofs.Written.{written_page}

@@ -1,4 +1,3 @@
-use Rattle.std.proofs.Common.{◌≡◌, true}
 use Rattle.ak_model.specs.Paging.Pages.{state_page}
 use Rattle.ak_pager.proofs.Written.{writable_touched}
 use Rattle.ak_pager.proofs.effects.set_phase.Goals as goal

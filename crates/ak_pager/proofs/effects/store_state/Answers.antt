@@ -1,5 +1,3 @@
-use Rattle.std.proofs.Common.{◌≡◌, true, ap, subst, ◌∙◌}
-use Rattle.ak_core.specs.Mem.{is_touched, is_writable}
 use Rattle.ak_pager.proofs.Written.{writable_touched}
 use Rattle.ak_pager.proofs.effects.store_state.Goals as goal
 

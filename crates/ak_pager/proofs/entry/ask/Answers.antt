@@ -1,4 +1,4 @@
-use Rattle.std.proofs.Common.{◌≡◌, ℕ, List, drop, refl, ap, sym, subst, ◌∙◌}
+use Rattle.std.proofs.Common.{◌≡◌, ℕ, drop, ap, sym, subst, ◌∙◌}
 use Rattle.ak_core.specs.declared.moves.Exit.{Exit}
 use Rattle.ak_model.specs.Clusters.Queue.{drops}
 use Rattle.ak_model.specs.Control.ControlState.{Asked}
@@ -22,8 +22,8 @@ returns-clause-row g c r regs reads =
     let rest : c.drop_for-dropped.new.self ≡ drop d r.queue = c.drop_for-dropped.ensures.rest ∙ ap (λ (n : ℕ). drop n c.load_state-state.result.queue) count ∙ ap (λ q. drop d q) queue in
     let frame : c.area_frame-state.result ≡ area_bytes r.first = c.area_frame-state.ensures ∙ ap (λ bytes. area_bytes bytes) (sym reads.first) in
     let says : HasState (Asked cluster) (drop d r.queue) (area_bytes r.first) (mid (state_page layout)) =
-        subst (λ q. HasState (Asked cluster) q (area_bytes r.first) (mid (state_page layout))) rest
-        (subst (λ f. HasState (Asked cluster) c.drop_for-dropped.new.self f (mid (state_page layout))) frame c.store_state.ensures.state) in
+    subst (λ q. HasState (Asked cluster) q (area_bytes r.first) (mid (state_page layout))) rest
+    (subst (λ f. HasState (Asked cluster) c.drop_for-dropped.new.self f (mid (state_page layout))) frame c.store_state.ensures.state) in
     performs layout (asking layout r cluster) old new _ regs (ap (λ (n : ℕ). RtTurn.Leave (Exit.Ask n cluster)) count)
     (guard_one layout (Asked cluster) (drop d r.queue) (area_bytes r.first) old mid new
     (state_alone layout (Asked cluster) (drop d r.queue) (area_bytes r.first) old mid says c.store_state.ensures.others) c.guard_area.ensures.frame c.guard_area.ensures.others)

@@ -1,5 +1,4 @@
-use Rattle.std.proofs.Common.{◌≡◌, ℕ, zero, suc, ◌≤◌, refl, ap, sym, subst, ◌∙◌, arith}
-use Rattle.std.specs.Prelude.{Bool, true, false}
+use Rattle.std.proofs.Common.{◌≡◌, ℕ, zero, suc, refl, ap, sym, subst, ◌∙◌}
 use Rattle.ak_core.specs.Layout.{Layout}
 use Rattle.ak_model.specs.Control.ControlState.{Phase, New, Running, Calling, Asked}
 use Rattle.ak_model.specs.Flat.Instructions.{reg_of, rdi}
@@ -50,7 +49,7 @@ returns-in_default-clause-row g c r reads =
     let read = c.load_phase.ensures r.phase reads.phase in
     let row = c.handle.ensures.row r c.args.regs.now reads in
     elim c.in_default.branch [
-      in_default-via-in-New+else-saved-eq0 w ↦ subst Q (ap phase_of (sym w.in-New.is) ∙ read) (subst P (sym (new_saved layout r k v w.if-saved-eq0.false)) row)
+      | in_default-via-in-New+else-saved-eq0 w ↦ subst Q (ap phase_of (sym w.in-New.is) ∙ read) (subst P (sym (new_saved layout r k v w.if-saved-eq0.false)) row)
       | in_default-via-in-Calling+else-saved-eq0-2 w ↦ subst Q (ap phase_of (sym w.in-Calling.is) ∙ read) (subst P (sym (calling_saved layout r k v w.if-saved-eq0-2.false)) row)
       | in_default-via-in-Asked+else-saved-eq1 w ↦ subst Q (ap phase_of (sym w.in-Asked.is) ∙ read) (subst P (sym (asked_saved layout r k v w.in-Asked.field-0 w.if-saved-eq1.false)) row)
       | in_default-via-in_default w ↦ subst Q (only_running c.load_phase.result w.in_default.not-New w.in_default.not-Calling w.in_default.not-Asked w.in_default.not-Ended w.in_default.not-Trapped w.in_default.not-Dead ∙ read) (subst P (sym (running_saved layout r k v)) row)

@@ -1,4 +1,4 @@
-use Rattle.std.proofs.Common.{◌≡◌, ◌⊎◌, inl, inr, ℕ, List, suc, ◌+◌, ◌-◌, ◌*◌, ◌≤◌, refl, ap, sym, subst, ◌∙◌, arith}
+use Rattle.std.proofs.Common.{◌≡◌, ◌⊎◌, inl, inr, ℕ, List, ◌+◌, ◌-◌, ◌*◌, refl, ap, sym, subst, ◌∙◌, arith}
 use Rattle.ak_core.specs.Mem.{Access}
 use Rattle.ak_core.specs.Layout.{Layout}
 use Rattle.ak_core.specs.declared.page.Kind.{Kind}
@@ -12,7 +12,7 @@ use Rattle.ak_pager.specs.declared.turn.RtTurn.{RtTurn}
 use Rattle.ak_pager.specs.Rows.{Reads, saved_row}
 use Rattle.ak_pager.specs.StepsTo.{Performs}
 use Rattle.ak_pager.specs.Effects.{AreReads}
-use Rattle.ak_pager.proofs.Faults.{why_fits, none_noted, vector_noted, PageNoted, page_noted}
+use Rattle.ak_pager.proofs.Faults.{why_fits, none_noted, vector_noted, page_noted}
 use Rattle.ak_pager.proofs.entry.handle.Goals as goal
 
 -- the newest frame
@@ -27,7 +27,7 @@ page_at-requires g c =
     let n = newest layout c.args.saved old r c.requires.reads.1 c.requires.saved in
     let fits = n.1 in
     let why : c.why.result ≡ why_of layout r.saved.cause =
-        c.why.ensures.saved r.saved.regs (why_of layout r.saved.cause) fits.words (why_fits layout (room layout c.requires.valid) r.saved.cause fits.cause) (c.area_frame-newest.ensures ∙ n.0) in
+    c.why.ensures.saved r.saved.regs (why_of layout r.saved.cause) fits.words (why_fits layout (room layout c.requires.valid) r.saved.cause fits.cause) (c.area_frame-newest.ensures ∙ n.0) in
     let noted = page_noted layout c.in-PageFault.address c.in-PageFault.kind r.saved.cause (sym c.in-PageFault.is ∙ why) in
     let low = subst (λ (cause : SavedCause). CauseFits layout cause) noted.is fits.cause in
     (noted.access.page.0, low, noted.address_is)
@@ -39,7 +39,7 @@ returns-in-Interrupt-clause-row g c r regs reads =
     let n = newest layout c.args.saved old r reads c.requires.saved in
     let fits = n.1 in
     let why : c.why.result ≡ why_of layout r.saved.cause =
-        c.why.ensures.saved r.saved.regs (why_of layout r.saved.cause) fits.words (why_fits layout (room layout c.requires.valid) r.saved.cause fits.cause) (c.area_frame-newest.ensures ∙ n.0) in
+    c.why.ensures.saved r.saved.regs (why_of layout r.saved.cause) fits.words (why_fits layout (room layout c.requires.valid) r.saved.cause fits.cause) (c.area_frame-newest.ensures ∙ n.0) in
     let noted = none_noted layout r.saved.cause (sym c.in-Interrupt.is ∙ why) in
     subst (λ (cause : SavedCause). Performs layout (saved_row layout r c.args.saved cause) old old (RtTurn.Leave Exit.Nothing) regs) (sym noted)
     (record { ends = refl; state = refl; areas = λ i l. refl; others = λ p differs area. refl })
@@ -52,7 +52,7 @@ returns-in-Vector-clause-row g c r regs reads =
     let n = newest layout c.args.saved old r reads c.requires.saved in
     let fits = n.1 in
     let why : c.why.result ≡ why_of layout r.saved.cause =
-        c.why.ensures.saved r.saved.regs (why_of layout r.saved.cause) fits.words (why_fits layout (room layout c.requires.valid) r.saved.cause fits.cause) (c.area_frame-newest.ensures ∙ n.0) in
+    c.why.ensures.saved r.saved.regs (why_of layout r.saved.cause) fits.words (why_fits layout (room layout c.requires.valid) r.saved.cause fits.cause) (c.area_frame-newest.ensures ∙ n.0) in
     let noted = vector_noted layout c.in-Vector.vector r.saved.cause (sym c.in-Vector.is ∙ why) in
     subst (λ (cause : SavedCause). Performs layout (saved_row layout r c.args.saved cause) old new c.trap.result regs) (sym noted) (c.trap.ensures.row r regs reads)
 
@@ -72,7 +72,7 @@ returns-in-PageFault-clause-row g c r regs reads =
     let n = newest layout c.args.saved old r reads c.requires.saved in
     let fits = n.1 in
     let why : c.why.result ≡ why_of layout r.saved.cause =
-        c.why.ensures.saved r.saved.regs (why_of layout r.saved.cause) fits.words (why_fits layout (room layout c.requires.valid) r.saved.cause fits.cause) (c.area_frame-newest.ensures ∙ n.0) in
+    c.why.ensures.saved r.saved.regs (why_of layout r.saved.cause) fits.words (why_fits layout (room layout c.requires.valid) r.saved.cause fits.cause) (c.area_frame-newest.ensures ∙ n.0) in
     let noted = page_noted layout c.in-PageFault.address c.in-PageFault.kind r.saved.cause (sym c.in-PageFault.is ∙ why) in
     let loaded = c.load.ensures.saved r.saved.regs (why_of layout r.saved.cause) fits.words (c.area_frame-newest.ensures ∙ n.0) in
     let access = same_access layout c.page_at.result.0 c.in-PageFault.kind noted.access (sym c.page_at.ensures ∙ noted.address_is) noted.kind_is in

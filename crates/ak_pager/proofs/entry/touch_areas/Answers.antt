@@ -1,11 +1,11 @@
-use Rattle.std.proofs.Common.{◌≡◌, ◌≤◌, ℕ, zero, suc, List, [], ◌∷◌, ◌++◌, refl, ap, sym, subst, ◌∙◌, arith}
+use Rattle.std.proofs.Common.{◌≡◌, ◌≤◌, ℕ, zero, suc, List, [], ◌∷◌, ◌++◌, refl, ap, sym, ◌∙◌, arith}
 use Rattle.std.specs.Prelude.{Some}
 use Rattle.std.proofs.lemmas.Result.{err_from_is_err_and}
 use Rattle.ak_core.specs.Layout.{Layout}
 use Rattle.ak_core.specs.Mem.{Access, access_to}
 use Rattle.ak_core.specs.declared.page.Kind.TheVariants.{Write}
 use Rattle.ak_model.specs.Paging.Pages.{ssa_page}
-use Rattle.ak_pager.specs.Effects.{TouchesAll, area_accesses}
+use Rattle.ak_pager.specs.Effects.{area_accesses}
 use Rattle.ak_pager.proofs.entry.touch_areas.Goals as goal
 
 -- the first area comes first
@@ -24,7 +24,7 @@ returns-in_err-touch_write-clause-touches g c =
     let after = g.M.Mem.granted c.touch_write.new.self in
     let is : c.in_err-touch_write.field-0.0 ≡ access_to (ssa_page layout 0) Write = touch.err ∙ ap (λ (p : ℕ). access_to p Write) c.area.ensures in
     let all : after ++ c.in_err-touch_write.field-0.0 ∷ rest.0 ≡ before ++ area_accesses layout c.args.saved =
-        ap (λ (l : List Access). l ++ c.in_err-touch_write.field-0.0 ∷ rest.0) touch.same ∙ ap (λ (t : Access). before ++ t ∷ rest.0) is ∙ ap (λ (l : List Access). before ++ l) rest.1 in
+    ap (λ (l : List Access). l ++ c.in_err-touch_write.field-0.0 ∷ rest.0) touch.same ∙ ap (λ (t : Access). before ++ t ∷ rest.0) is ∙ ap (λ (l : List Access). before ++ l) rest.1 in
     let refused = touch.refused_is ∙ ap Some (sym touch.err) in
     let p = err_from_is_err_and c.from_residual.result c.from_residual.ensures.1 in
     rw (p.1, p.2) (record { ok = tt; held = tt; unrefused = tt; err = (rest.0, all); refused_is = refused })

@@ -1,4 +1,4 @@
-use Rattle.std.proofs.Common.{◌≡◌, refl}
+use Rattle.std.proofs.Common.{refl}
 use Rattle.ak_model.specs.Control.ControlState.{Trapped}
 use Rattle.ak_pager.specs.Rows.{AreasGuard, trapping}
 use Rattle.ak_pager.proofs.Changing.{in_row, performs}

@@ -1,4 +1,4 @@
-use Rattle.std.proofs.Common.{◌≡◌, List, sym, subst, ◌∙◌}
+use Rattle.std.proofs.Common.{subst}
 use Rattle.ak_model.specs.Paging.Pages.{state_page}
 use Rattle.ak_ssa.specs.SavedFrames.{frame_bytes}
 use Rattle.ak_pager.specs.Rows.{left_frame}
@@ -15,6 +15,6 @@ returns-clause-changes g c queue has =
     let old = g.M.Mem.bytes c.args.mem.now in
     let new = g.M.Mem.bytes c.store_state.new.mem in
     let says : HasState phase queue frame (new (state_page layout)) =
-        subst (λ q. HasState phase q frame (new (state_page layout))) (c.load_state-state.ensures.queue queue has)
-        (subst (λ f. HasState phase c.load_state-state.result.queue f (new (state_page layout))) c.save.ensures c.store_state.ensures.state) in
+    subst (λ q. HasState phase q frame (new (state_page layout))) (c.load_state-state.ensures.queue queue has)
+    (subst (λ f. HasState phase c.load_state-state.result.queue f (new (state_page layout))) c.save.ensures c.store_state.ensures.state) in
     state_alone layout phase queue frame old new says c.store_state.ensures.others

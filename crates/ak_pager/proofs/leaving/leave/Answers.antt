@@ -1,8 +1,8 @@
-use Rattle.std.proofs.Common.{◌≡◌, ℕ, zero, suc, List, refl, sym, subst, ◌∙◌}
+use Rattle.std.proofs.Common.{◌≡◌, ℕ, zero, suc, List, refl, sym, subst}
 use Rattle.ak_core.specs.Layout.{Layout}
 use Rattle.ak_core.specs.declared.moves.Exit.{Exit}
 use Rattle.ak_core.specs.declared.registers.Regs.{Regs}
-use Rattle.ak_model.specs.Control.ControlState.{Ended, Calling}
+use Rattle.ak_model.specs.Control.ControlState.{Calling}
 use Rattle.ak_model.specs.Flat.Instructions.{reg_of, rsi, rdi}
 use Rattle.ak_ssa.specs.SavedFrames.{frame_bytes}
 use Rattle.ak_pager.specs.declared.turn.RtTurn.{RtTurn}

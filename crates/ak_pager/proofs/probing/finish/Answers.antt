@@ -1,5 +1,4 @@
-use Rattle.std.proofs.Common.{◌≡◌, ◌<◌, ◌++◌, [], ◌∷◌, ℕ, List, refl, ap, sym, subst, ◌∙◌, arith, take, drop}
-use Rattle.std.specs.Prelude.{false}
+use Rattle.std.proofs.Common.{◌≡◌, ◌++◌, [], ◌∷◌, refl, ap, sym, subst, ◌∙◌, arith}
 use Rattle.ak_model.specs.Clusters.Queue.{is_in}
 use Rattle.ak_model.specs.Control.ControlState.{Phase, Running, Asked}
 use Rattle.ak_model.specs.Paging.Pages.{state_page}
@@ -43,8 +42,8 @@ returns-clause-row g c r regs reads asked =
     let queue : c.append.new.self ≡ r.queue ++ cluster ∷ [] = c.append.ensures ∙ ap (λ q. q ++ cluster ∷ []) (c.load_state-state.ensures.queue r.queue reads.queue) in
     let bytes : c.load_state-state.result.frame ≡ kept_bytes r.state = c.load_state-state.ensures.frame ∙ ap (λ b. kept_bytes b) (sym reads.state) in
     let says : HasState Running (r.queue ++ cluster ∷ []) (kept_bytes r.state) (new (state_page layout)) =
-        subst (λ q. HasState Running q (kept_bytes r.state) (new (state_page layout))) queue
-        (subst (λ f. HasState Running c.append.new.self f (new (state_page layout))) bytes c.store_state.ensures.state) in
+    subst (λ q. HasState Running q (kept_bytes r.state) (new (state_page layout))) queue
+    (subst (λ f. HasState Running c.append.new.self f (new (state_page layout))) bytes c.store_state.ensures.state) in
     subst (λ (p : Phase). Performs layout (finish_row r p) old new (RtTurn.Leave Exit.Ready) regs) (sym asked)
     (performs layout (finish_row r (Asked cluster)) old new (RtTurn.Leave Exit.Ready) regs refl
     (area_first layout Running (r.queue ++ cluster ∷ []) (kept_bytes r.state) program old mid new frame c.set_area.ensures.others says c.store_state.ensures.others))

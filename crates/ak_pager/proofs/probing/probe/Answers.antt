@@ -1,12 +1,12 @@
-use Rattle.std.proofs.Common.{◌≡◌, ℕ, ◌+◌, ◌<◌, ◌≤◌, List, [], ◌∷◌, ◌++◌, length, refl, ap, sym, subst, ◌∙◌, arith}
-use Rattle.std.specs.Prelude.{Some, None, ◌==◌, slice_get, slice_index}
+use Rattle.std.proofs.Common.{◌≡◌, ℕ, List, [], ◌∷◌, ◌++◌, refl, ap, sym, subst, ◌∙◌, arith}
+use Rattle.std.specs.Prelude.{Some, ◌==◌}
 use Rattle.std.proofs.lemmas.Result.{err_from_is_err_and}
 use Rattle.ak_core.specs.Mem.{Access, access_to}
 use Rattle.ak_core.specs.declared.page.Kind.TheVariants.{Write}
 use Rattle.ak_core.specs.declared.registers.Regs.{Regs}
 use Rattle.ak_model.specs.Control.ControlState.{Asked}
 use Rattle.ak_model.specs.Flat.Instructions.{reg_of, rcx}
-use Rattle.ak_model.specs.Paging.Pages.{pages, pages_of, cluster_at, ssa_page, state_page, strong_kind}
+use Rattle.ak_model.specs.Paging.Pages.{pages, pages_of, cluster_at, ssa_page, strong_kind}
 use Rattle.ak_model.proofs.Clusters.ClusterPages.{page_low}
 use Rattle.ak_pager.specs.declared.turn.RtTurn.{RtTurn}
 use Rattle.ak_pager.specs.Rows.{Reads, finish_row}

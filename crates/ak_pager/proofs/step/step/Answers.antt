@@ -1,5 +1,5 @@
-use Rattle.std.proofs.Common.{◌≡◌, ℕ, List, [], ◌∷◌, ◌++◌, refl, ap, sym, subst, ◌∙◌}
-use Rattle.std.specs.Prelude.{Bool, true, Some, None}
+use Rattle.std.proofs.Common.{◌≡◌, ℕ, List, [], ◌∷◌, ◌++◌, ap, sym, subst, ◌∙◌}
+use Rattle.std.specs.Prelude.{Bool, true, Some}
 use Rattle.std.proofs.lemmas.Result.{err_from_is_err_and}
 use Rattle.ak_core.specs.Mem.{Access, access_to}
 use Rattle.ak_core.specs.declared.page.Kind.TheVariants.{Write, Exec}
@@ -48,7 +48,7 @@ guard-requires-clause-reads g c =
     let ran = c.in_ok-touch_exec.ensures.touch in
     let bytes : g.M.Mem.bytes c.touch_write.new.self ≡ old = c.touch_write.ensures.bytes ∙ c.touch_exec.ensures.bytes in
     let held : holds (state_page layout) ≡ true =
-        ap (λ (p : ℕ). holds p) (sym c.state.ensures) ∙ ap (λ (f : ℕ → Bool). f c.state.result.0) (sym c.touch_exec.ensures.holds) ∙ wrote.held in
+    ap (λ (p : ℕ). holds p) (sym c.state.ensures) ∙ ap (λ (f : ℕ → Bool). f c.state.result.0) (sym c.touch_exec.ensures.holds) ∙ wrote.held in
     subst (λ (b : ℕ → List ℕ). AreSomeReads layout 0 b) (sym bytes) (reads_any layout c.code.ensures.valid regs holds old held c.requires.some)
 
 pub leave-requires-clause-reads : goal.leave-requires-clause-reads
@@ -61,7 +61,7 @@ leave-requires-clause-reads g c =
     let ran = c.in_ok-touch_exec.ensures.touch in
     let bytes : g.M.Mem.bytes c.touch_write.new.self ≡ old = c.touch_write.ensures.bytes ∙ c.touch_exec.ensures.bytes in
     let held : holds (state_page layout) ≡ true =
-        ap (λ (p : ℕ). holds p) (sym c.state.ensures) ∙ ap (λ (f : ℕ → Bool). f c.state.result.0) (sym c.touch_exec.ensures.holds) ∙ wrote.held in
+    ap (λ (p : ℕ). holds p) (sym c.state.ensures) ∙ ap (λ (f : ℕ → Bool). f c.state.result.0) (sym c.touch_exec.ensures.holds) ∙ wrote.held in
     subst (λ (b : ℕ → List ℕ). AreSomeReads layout 0 b) (sym bytes) (reads_any layout c.code.ensures.valid regs holds old held c.requires.some)
 
 pub returns-then-regs-address_of-2-clause-steps : goal.returns-then-regs-address_of-2-clause-steps
@@ -74,10 +74,10 @@ returns-then-regs-address_of-2-clause-steps g c =
     let ran = c.in_ok-touch_exec.ensures.touch in
     let bytes : g.M.Mem.bytes c.touch_write.new.self ≡ old = c.touch_write.ensures.bytes ∙ c.touch_exec.ensures.bytes in
     let held : holds (state_page layout) ≡ true =
-        ap (λ (p : ℕ). holds p) (sym c.state.ensures) ∙ ap (λ (f : ℕ → Bool). f c.state.result.0) (sym c.touch_exec.ensures.holds) ∙ wrote.held in
+    ap (λ (p : ℕ). holds p) (sym c.state.ensures) ∙ ap (λ (f : ℕ → Bool). f c.state.result.0) (sym c.touch_exec.ensures.holds) ∙ wrote.held in
     let begun : g.M.Mem.granted c.touch_write.new.self ≡ first_accesses layout =
-        wrote.ok ∙ ap (λ (l : List Access). l ++ access_to c.state.result.0 Write ∷ []) (ran.ok ∙ ap (λ (l : List Access). l ++ access_to c.code.result.0 Exec ∷ []) c.requires.begun)
-        ∙ ap (λ (p : ℕ). access_to p Exec ∷ access_to c.state.result.0 Write ∷ []) c.code.ensures.page ∙ ap (λ (p : ℕ). access_to (code_page layout) Exec ∷ access_to p Write ∷ []) c.state.ensures in
+    wrote.ok ∙ ap (λ (l : List Access). l ++ access_to c.state.result.0 Write ∷ []) (ran.ok ∙ ap (λ (l : List Access). l ++ access_to c.code.result.0 Exec ∷ []) c.requires.begun)
+    ∙ ap (λ (p : ℕ). access_to p Exec ∷ access_to c.state.result.0 Write ∷ []) c.code.ensures.page ∙ ap (λ (p : ℕ). access_to (code_page layout) Exec ∷ access_to p Write ∷ []) c.state.ensures in
     let none = wrote.unrefused ∙ ran.unrefused ∙ c.requires.unrefused in
     let stays = c.guard.ensures.stays in
     let new = g.M.Mem.bytes c.guard.new.mem in
@@ -95,10 +95,10 @@ returns-then-regs-address_of-3-clause-steps g c =
     let ran = c.in_ok-touch_exec.ensures.touch in
     let bytes : g.M.Mem.bytes c.touch_write.new.self ≡ old = c.touch_write.ensures.bytes ∙ c.touch_exec.ensures.bytes in
     let held : holds (state_page layout) ≡ true =
-        ap (λ (p : ℕ). holds p) (sym c.state.ensures) ∙ ap (λ (f : ℕ → Bool). f c.state.result.0) (sym c.touch_exec.ensures.holds) ∙ wrote.held in
+    ap (λ (p : ℕ). holds p) (sym c.state.ensures) ∙ ap (λ (f : ℕ → Bool). f c.state.result.0) (sym c.touch_exec.ensures.holds) ∙ wrote.held in
     let begun : g.M.Mem.granted c.touch_write.new.self ≡ first_accesses layout =
-        wrote.ok ∙ ap (λ (l : List Access). l ++ access_to c.state.result.0 Write ∷ []) (ran.ok ∙ ap (λ (l : List Access). l ++ access_to c.code.result.0 Exec ∷ []) c.requires.begun)
-        ∙ ap (λ (p : ℕ). access_to p Exec ∷ access_to c.state.result.0 Write ∷ []) c.code.ensures.page ∙ ap (λ (p : ℕ). access_to (code_page layout) Exec ∷ access_to p Write ∷ []) c.state.ensures in
+    wrote.ok ∙ ap (λ (l : List Access). l ++ access_to c.state.result.0 Write ∷ []) (ran.ok ∙ ap (λ (l : List Access). l ++ access_to c.code.result.0 Exec ∷ []) c.requires.begun)
+    ∙ ap (λ (p : ℕ). access_to p Exec ∷ access_to c.state.result.0 Write ∷ []) c.code.ensures.page ∙ ap (λ (p : ℕ). access_to (code_page layout) Exec ∷ access_to p Write ∷ []) c.state.ensures in
     let none = wrote.unrefused ∙ ran.unrefused ∙ c.requires.unrefused in
     let stays = c.leave.ensures.stays in
     let new = g.M.Mem.bytes c.leave.new.mem in

@@ -1,6 +1,6 @@
-use Rattle.std.proofs.Common.{◌≡◌, ℕ, List, length, take, drop, ◌∙◌, ap, sym, arith}
+use Rattle.std.proofs.Common.{◌≡◌, ℕ, List, take, ◌∙◌, ap, arith}
 use Rattle.ak_model.specs.Control.ControlState.{Phase, New, Running, Calling, Asked, Ended, Trapped, Dead}
-use Rattle.ak_model.specs.Flat.Instructions.{le_value, number_at}
+use Rattle.ak_model.specs.Flat.Instructions.{le_value}
 use Rattle.ak_pager.specs.RuntimePages.{SaysMore}
 use Rattle.ak_pager.specs.Remembered.{phase_of}
 use borrow.Rule.Slice.PartMut.{put_mid}
