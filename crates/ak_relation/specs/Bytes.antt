@@ -1,3 +1,2 @@
 -- What the bytes of pages say.
-pub mod Contexts
 pub mod Pages

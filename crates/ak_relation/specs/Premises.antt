@@ -12,7 +12,5 @@ pub mod Saving
 pub mod Computing
 pub mod CallingOut
 pub mod Faulting
-pub mod Rows
-pub mod StepsTo
 pub mod Works
 pub mod Shows

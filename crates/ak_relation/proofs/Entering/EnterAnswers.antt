@@ -23,7 +23,8 @@ use Rattle.ak_model.specs.Tapes.ProgramTurns.{ProgramTurn}
 use Rattle.ak_model.specs.Sound.Forced.{queue_by}
 use Rattle.ak_model.proofs.Control.OrderlyMoves.{three}
 use Rattle.ak_epcm.specs.Entries.{entry_at}
-use Rattle.ak_relation.specs.State.MachineState.{State, copy, OfCopy}
+use Rattle.ak_relation.specs.State.MachineState.{State, copy}
+use Rattle.ak_pager.specs.RuntimePages.{OfCopy}
 use Rattle.ak_relation.specs.State.Tables.{TablesStand}
 use Rattle.ak_relation.specs.Bytes.Pages.{flag_number, IsTcs}
 use Rattle.ak_relation.specs.Premises.EnterRows.{is_in_entry, walk_in, tcs_in, pending_in, tcs_bytes, enter_row, resume_row}

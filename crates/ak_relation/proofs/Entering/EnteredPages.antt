@@ -23,8 +23,9 @@ use Rattle.ak_model.specs.Tapes.ProgramTurns.{ProgramTurn}
 use Rattle.ak_model.specs.Sound.Forced.{queue_by}
 use Rattle.ak_model.proofs.Control.OrderlyMoves.{none_now, three}
 use Rattle.ak_model.proofs.Paging.SomeoneInside.{other, outside_ok}
-use Rattle.ak_relation.specs.State.MachineState.{State, copy, OfCopy}
-use Rattle.ak_relation.specs.Bytes.Pages.{IsTcs, IsArea, AreasStand, IsState, CopiesStand}
+use Rattle.ak_relation.specs.State.MachineState.{State, copy}
+use Rattle.ak_pager.specs.RuntimePages.{OfCopy, IsArea, AreasStand, IsState}
+use Rattle.ak_relation.specs.Bytes.Pages.{IsTcs, CopiesStand}
 use Rattle.ak_relation.specs.Program.Turns.{is_last}
 use Rattle.ak_relation.specs.Program.Reaching.{IsForcedBy, BreaksStand}
 use Rattle.ak_relation.specs.Relation.Stands.{copies_at, Stands}

@@ -29,7 +29,7 @@ use Rattle.ak_model.proofs.Control.OrderlyMoves.{enter_fits}
 use Rattle.ak_model.proofs.Control.OneInside.{enters}
 use Rattle.ak_model.proofs.Paging.SomeoneInside.{other, outside_ok}
 use Rattle.ak_relation.specs.State.MachineState.{State}
-use Rattle.ak_relation.specs.Bytes.Contexts.{GivesNow}
+use Rattle.ak_pager.specs.Contexts.{GivesNow}
 use Rattle.ak_model.specs.Laws.OwedAnswers.{owing_running}
 use Rattle.ak_relation.specs.Program.FlatPlaces.{IsAtBy}
 use Rattle.ak_relation.specs.Program.Turns.{is_last, LawsStand}

@@ -28,7 +28,7 @@ use Rattle.ak_model.proofs.Control.OrderlyMoves.{resume_fits}
 use Rattle.ak_model.proofs.Control.OneInside.{resumes}
 use Rattle.ak_model.proofs.Paging.SomeoneInside.{outside_ok}
 use Rattle.ak_relation.specs.State.MachineState.{State}
-use Rattle.ak_relation.specs.Bytes.Contexts.{Gives, GivesNow}
+use Rattle.ak_pager.specs.Contexts.{Gives, GivesNow}
 use Rattle.ak_model.specs.Laws.OwedAnswers.{oldest, owing_by}
 use Rattle.ak_relation.specs.Program.FlatPlaces.{IsAtBy}
 use Rattle.ak_model.specs.Laws.Calls.{calls_by, IsAnswered}

@@ -18,7 +18,7 @@ use Rattle.ak_model.specs.Control.ControlState.{Running, Program, Reason, Contro
 use Rattle.ak_model.specs.Control.RuntimeTurn.{shown_fault}
 use Rattle.ak_model.specs.Tapes.ProgramTurns.{ProgramTurn}
 use Rattle.ak_relation.specs.State.MachineState.{State}
-use Rattle.ak_relation.specs.Bytes.Contexts.{Gives, GivesNow}
+use Rattle.ak_pager.specs.Contexts.{Gives, GivesNow}
 use Rattle.ak_model.specs.Laws.OwedAnswers.{oldest, owing_running, owing_by, owing}
 use Rattle.ak_relation.specs.Program.FlatPlaces.{IsAtBy}
 use Rattle.ak_relation.specs.Program.Turns.{events_by}

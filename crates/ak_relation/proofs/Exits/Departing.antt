@@ -28,7 +28,7 @@ use Rattle.ak_model.specs.Control.EventTurn.{count_of}
 use Rattle.ak_model.specs.Laws.Premises.{MissesFit}
 use Rattle.ak_ssa.specs.SavedFrames.{SavedCause, area_place, HasFrame}
 use Rattle.ak_relation.specs.State.MachineState.{State}
-use Rattle.ak_relation.specs.Bytes.Contexts.{IsNoted}
+use Rattle.ak_pager.specs.Contexts.{IsNoted}
 use Rattle.ak_model.specs.Laws.Calls.{calls_in, calls_by, IsAnswered}
 use Rattle.ak_relation.specs.Program.Turns.{events_by, TurnStands, IsFresh, ends_by, is_last, is_last_call, IsGoing, LawsStand}
 use Rattle.ak_relation.specs.Program.Reaching.{IsForcedBy, StaysBy, IsStaying}

@@ -22,7 +22,8 @@ use Rattle.ak_model.specs.Control.RuntimeTurn.{shown_fault}
 use Rattle.ak_model.specs.Control.EventTurn.{count_of, event_turn, leave_program}
 use Rattle.ak_model.specs.Tapes.ProgramTurns.{ProgramTurn, turn_in}
 use Rattle.ak_ssa.specs.SavedFrames.{SavedCause, ByVector, ByPage}
-use Rattle.ak_relation.specs.State.MachineState.{State, copy, OfCopy}
+use Rattle.ak_relation.specs.State.MachineState.{State, copy}
+use Rattle.ak_pager.specs.RuntimePages.{OfCopy}
 use Rattle.ak_relation.specs.Bytes.Pages.{IsTcs}
 use Rattle.ak_relation.specs.Relation.Stands.{runs_at, Stands}
 use Rattle.ak_relation.specs.Premises.Saving.{Saves}

@@ -12,7 +12,8 @@ use Rattle.ak_model.specs.Control.ControlState.{Context, Interrupted}
 use Rattle.ak_model.specs.Control.RuntimeTurn.{save}
 use Rattle.ak_model.specs.Control.Entering.{interrupted_by}
 use Rattle.ak_ssa.specs.SavedFrames.{NoCause}
-use Rattle.ak_relation.specs.State.MachineState.{State, copy, OfCopy}
+use Rattle.ak_relation.specs.State.MachineState.{State, copy}
+use Rattle.ak_pager.specs.RuntimePages.{OfCopy}
 use Rattle.ak_relation.specs.Bytes.Pages.{IsTcs}
 use Rattle.ak_relation.specs.Program.Reaching.{StaysBy, IsStaying}
 use Rattle.ak_relation.specs.Relation.Stands.{runs_at}

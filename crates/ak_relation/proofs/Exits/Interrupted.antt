@@ -22,7 +22,7 @@ use Rattle.ak_model.specs.Laws.Orderly.{ContextFits, NowFits, IsOrderly, is_live
 use Rattle.ak_model.proofs.Control.OrderlyMoves.{interrupt_fits}
 use Rattle.ak_model.proofs.Control.OneInside.{interrupts}
 use Rattle.ak_relation.specs.State.MachineState.{State}
-use Rattle.ak_relation.specs.Bytes.Contexts.{Gives, GivesNow}
+use Rattle.ak_pager.specs.Contexts.{Gives, GivesNow}
 use Rattle.ak_model.specs.Laws.OwedAnswers.{oldest, owing_by}
 use Rattle.ak_relation.specs.Program.FlatPlaces.{IsAtBy}
 use Rattle.ak_model.specs.Laws.Calls.{calls_by, IsAnswered}

@@ -12,12 +12,13 @@ use Rattle.ak_model.specs.Flat.FlatRuns.{Flat, page_bytes}
 use Rattle.ak_model.specs.Tapes.LastMoment.{FlatRuns}
 use Rattle.ak_model.specs.Tapes.ProgramTurns.{ProgramTurn}
 use Rattle.ak_model.specs.Control.ControlState.{Phase, Context, Reason, Saved}
-use Rattle.ak_relation.specs.Bytes.Contexts.{Gives, IsNoted}
-use Rattle.ak_relation.specs.State.MachineState.{State, copy, OfCopy}
+use Rattle.ak_pager.specs.Contexts.{Gives, IsNoted}
+use Rattle.ak_relation.specs.State.MachineState.{State, copy}
+use Rattle.ak_pager.specs.RuntimePages.{OfCopy, IsArea, AreasStand, IsState}
 use Rattle.ak_ssa.specs.SavedFrames.{SavedCause}
 use Rattle.ak_ssa.specs.FramesFit.{FrameFits}
 use Rattle.ak_relation.specs.State.Tables.{TablesStand}
-use Rattle.ak_relation.specs.Bytes.Pages.{IsTcs, IsArea, AreasStand, IsState, CopiesStand}
+use Rattle.ak_relation.specs.Bytes.Pages.{IsTcs, CopiesStand}
 use Rattle.ak_relation.specs.Program.Reaching.{IsForcedBy, BreaksStand}
 use Rattle.ak_relation.specs.Relation.Stands.{copies_at}
 use Rattle.ak_relation.specs.Premises.Saving.{Saves}

@@ -7,8 +7,8 @@ use Rattle.ak_model.specs.Flat.FlatRuns.{Flat, page_bytes}
 use Rattle.ak_model.specs.Control.ControlState.{Phase, Reason, Interrupted, Cleared, Raised, Denied, Missed, Broke, Faulted, Saved}
 use Rattle.ak_model.specs.Tapes.LastMoment.{FlatRuns}
 use Rattle.ak_model.specs.Tapes.ProgramTurns.{ProgramTurn}
-use Rattle.ak_relation.specs.State.MachineState.{OfCopy}
-use Rattle.ak_relation.specs.Bytes.Pages.{Copies, IsTcs, IsArea, AreasStand, IsState, CopiesStand}
+use Rattle.ak_pager.specs.RuntimePages.{OfCopy, Copies, IsArea, AreasStand, IsState}
+use Rattle.ak_relation.specs.Bytes.Pages.{IsTcs, CopiesStand}
 use Rattle.ak_relation.specs.Program.Reaching.{NamesBreak, IsForcedBy, BreaksStand}
 use Rattle.ak_relation.specs.Premises.Leaves.{AreFewer}
 

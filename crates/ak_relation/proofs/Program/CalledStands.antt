@@ -18,9 +18,10 @@ use Rattle.ak_model.specs.Control.ControlState.{Phase, Running, Program, Leave, 
 use Rattle.ak_model.specs.Tapes.ProgramTurns.{ProgramTurn, turn_at}
 use Rattle.ak_model.specs.Misses.KeptTranslations.{completed_since, is_among, same_access}
 use Rattle.ak_core.specs.declared.event.Event.TheVariants.{Call}
-use Rattle.ak_relation.specs.State.MachineState.{State, copy, OfCopy}
+use Rattle.ak_relation.specs.State.MachineState.{State, copy}
+use Rattle.ak_pager.specs.RuntimePages.{OfCopy, AreasStand, IsState, KeepsFrame}
 use Rattle.ak_relation.specs.Program.FlatPlaces.{IsAtBy, Reaches}
-use Rattle.ak_relation.specs.Bytes.Pages.{IsTcs, AreasStand, IsState, KeepsFrame}
+use Rattle.ak_relation.specs.Bytes.Pages.{IsTcs}
 use Rattle.ak_relation.specs.State.Tables.{EntriesStand, SlotsStand, SealedPageAgrees, MappingStands, FramesStand, TablesStand}
 use Rattle.ak_relation.specs.Program.Reaching.{is_filled, granted_to, IsStaying, StaysBy, BreaksStand, HoldsArea, HoldsTcs}
 use Rattle.ak_relation.specs.Relation.Stands.{runs_at, copies_at, BytesStand, Stands}
@@ -32,7 +33,7 @@ use Rattle.ak_relation.proofs.Program.CalledTurn.{called, left, line_is, stay, f
 use Rattle.ak_relation.proofs.Program.Completing.{same_id}
 use Rattle.ak_relation.proofs.Program.TurnWords.{inputs_with}
 use Rattle.ak_model.proofs.Misses.Granted.{granted-completes}
-use Rattle.ak_relation.specs.Bytes.Contexts.{Gives, GivesNow}
+use Rattle.ak_pager.specs.Contexts.{Gives, GivesNow}
 
 module _ (layout : Layout) (image : List ℕ) (past : History) (control : Control) (turns : List ProgramTurn) (old new : State) (lp place : ℕ) (flat after : Flat) (b a : ℕ)
     (h : Stands layout image (at_moment past control turns old)) (is : since past lp ≡ Some place) (now : control.now ≡ Some Program)

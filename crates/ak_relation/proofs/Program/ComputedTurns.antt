@@ -13,7 +13,8 @@ use Rattle.ak_model.specs.Paging.PageTable.{pte}
 use Rattle.ak_model.specs.Paging.Inside.{since, inside}
 use Rattle.ak_model.specs.Flat.FlatRuns.{Flat, page_bytes}
 use Rattle.ak_epcm.specs.Entries.{entry_at}
-use Rattle.ak_relation.specs.State.MachineState.{State, copy, OfCopy}
+use Rattle.ak_relation.specs.State.MachineState.{State, copy}
+use Rattle.ak_pager.specs.RuntimePages.{OfCopy}
 use Rattle.ak_relation.specs.State.Tables.{EntriesStand, MappingStands, SealedPageAgrees, TablesStand}
 use Rattle.ak_model.specs.Flat.Instructions.{number_at}
 use Rattle.ak_relation.specs.State.MachineView.{held_in}

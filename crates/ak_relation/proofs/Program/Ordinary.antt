@@ -6,7 +6,8 @@ use Rattle.ak_model.specs.Paging.Pages.{pages}
 use Rattle.ak_model.specs.Paging.Histories.{History}
 use Rattle.ak_model.specs.Flat.FlatRuns.{Flat, End, line, ending, page_bytes}
 use Rattle.ak_model.specs.Misses.KeptTranslations.{is_among}
-use Rattle.ak_relation.specs.State.MachineState.{State, OfCopy}
+use Rattle.ak_relation.specs.State.MachineState.{State}
+use Rattle.ak_pager.specs.RuntimePages.{OfCopy}
 use Rattle.ak_relation.specs.State.Tables.{TablesStand}
 use Rattle.ak_relation.specs.Program.Reaching.{is_filled, AreReached}
 use Rattle.ak_relation.specs.Relation.Stands.{copies_at}

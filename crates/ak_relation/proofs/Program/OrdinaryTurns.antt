@@ -16,10 +16,11 @@ use Rattle.ak_model.specs.Laws.Orderly.{IsOrderly, is_live}
 use Rattle.ak_model.specs.Sound.Forced.{queue_by}
 use Rattle.ak_model.specs.Misses.Reached.{entered_at, accesses_at, accesses_next}
 use Rattle.ak_model.specs.Misses.KeptTranslations.{completed_since, is_among, same_access}
-use Rattle.ak_relation.specs.State.MachineState.{State, OfCopy}
+use Rattle.ak_relation.specs.State.MachineState.{State}
+use Rattle.ak_pager.specs.RuntimePages.{OfCopy, AreasStand, IsState, KeepsFrame}
 use Rattle.ak_model.specs.Laws.OwedAnswers.{Settled, oldest, owing_running, owing_by, owing}
 use Rattle.ak_relation.specs.Program.FlatPlaces.{IsAtBy, Reaches}
-use Rattle.ak_relation.specs.Bytes.Pages.{IsTcs, AreasStand, IsState, KeepsFrame}
+use Rattle.ak_relation.specs.Bytes.Pages.{IsTcs}
 use Rattle.ak_model.specs.Laws.Calls.{calls_by, IsReturned}
 use Rattle.ak_relation.specs.Program.Turns.{events_by, TapeStands, TurnStands, IsGoing, LawsStand, IsFresh, is_last, is_last_call}
 use Rattle.ak_relation.specs.Program.Reaching.{is_filled, granted_to, IsStaying, StaysBy, BreaksStand, HoldsArea, HoldsTcs}
@@ -29,7 +30,7 @@ use Rattle.ak_relation.specs.Relation.Does.{at_moment}
 use Rattle.ak_relation.proofs.Program.Completing.{same_id, going_more, reaches-next, tape-next, filled-completes}
 use Rattle.ak_relation.proofs.Program.TurnWords.{inputs_with}
 use Rattle.ak_model.proofs.Misses.Granted.{granted-completes}
-use Rattle.ak_relation.specs.Bytes.Contexts.{GivesNow}
+use Rattle.ak_pager.specs.Contexts.{GivesNow}
 
 -- the turn itself
 abbrev pub new_turn : ℕ → History → Control → ProgramTurn

@@ -15,7 +15,7 @@ use Rattle.ak_model.specs.Control.Runs.{turn_of}
 use Rattle.ak_model.specs.Control.EventTurn.{count_of, due, event_turn}
 use Rattle.ak_model.specs.Tapes.ProgramTurns.{ProgramTurn, turn_in}
 use Rattle.ak_model.specs.Laws.Premises.{IsLater}
-use Rattle.ak_relation.specs.Bytes.Contexts.{GivesNow}
+use Rattle.ak_pager.specs.Contexts.{GivesNow}
 use Rattle.ak_model.specs.Laws.OwedAnswers.{Settled, oldest, owing_running, owing_by, owing}
 use Rattle.ak_relation.specs.Program.FlatPlaces.{IsAtBy, Reaches}
 use Rattle.ak_relation.specs.State.MachineState.{State}

@@ -17,8 +17,9 @@ use Rattle.ak_model.specs.Control.ControlState.{Running, Program, Control}
 use Rattle.ak_model.specs.Laws.Orderly.{NowFits}
 use Rattle.ak_model.specs.Tapes.ProgramTurns.{ProgramTurn}
 use Rattle.ak_tlb.specs.Fills.{Fill}
-use Rattle.ak_relation.specs.State.MachineState.{State, copy, OfCopy}
-use Rattle.ak_relation.specs.Bytes.Contexts.{GivesNow}
+use Rattle.ak_relation.specs.State.MachineState.{State, copy}
+use Rattle.ak_pager.specs.RuntimePages.{OfCopy}
+use Rattle.ak_pager.specs.Contexts.{GivesNow}
 use Rattle.ak_relation.specs.Program.FlatPlaces.{Reaches}
 use Rattle.ak_relation.specs.Program.Reaching.{AreReached, StaysBy, IsStaying}
 use Rattle.ak_relation.specs.Relation.Stands.{runs_at, Stands}

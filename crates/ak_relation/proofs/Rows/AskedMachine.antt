@@ -11,11 +11,12 @@ use Rattle.ak_core.specs.declared.moves.Exit.{Exit}
 use Rattle.ak_model.specs.Paging.Pages.{ssa_page}
 use Rattle.ak_model.specs.Flat.FlatRuns.{Flat}
 use Rattle.ak_model.specs.Control.ControlState.{Running, Context, Enter, Control}
-use Rattle.ak_relation.specs.Bytes.Contexts.{entry_regs}
+use Rattle.ak_pager.specs.Contexts.{entry_regs}
 use Rattle.ak_relation.specs.State.MachineState.{State}
 use Rattle.ak_relation.specs.Premises.EnterRows.{enter_row}
-use Rattle.ak_relation.specs.Premises.Rows.{guard_frame, entry_row}
-use Rattle.ak_relation.specs.Premises.StepsTo.{Left, Performs, ReadsSaved, reads_of, MayStep, StepsTo, memory_of}
+use Rattle.ak_pager.specs.Rows.{guard_frame, entry_row}
+use Rattle.ak_pager.specs.StepsTo.{Performs, ReadsSaved, reads_of, MayStep, StepsTo, memory_of}
+use Rattle.ak_pager.specs.declared.turn.RtTurn.{RtTurn}
 use Rattle.ak_relation.specs.Relation.Does.{IsTurn, IsMove}
 use Rattle.ak_relation.specs.Relation.MoveByMove.{AreMoves}
 use Rattle.ak_relation.specs.Relation.Example.{one_page, input_program, handling_past, asked_past, IsReached}
@@ -131,7 +132,7 @@ module _ (control : Control) (flat : Flat) (may : MayStep one_page control (Ente
   empty : control.queue ≡ []
   empty = let state = may.state in no_queue control.queue (sym same_kept.0 ∙ state.size)
 
-  asks : Performs one_page (entry_row one_page (reads_of one_page Running [] before program_frame program_frame) 1 7 Running) before after (Left (Exit.Ask 0 0)) first_regs
+  asks : Performs one_page (entry_row one_page (reads_of one_page Running [] before program_frame program_frame) 1 7 Running) before after (RtTurn.Leave (Exit.Ask 0 0)) first_regs
   asks = record {
     ends = refl;
     state = record {
@@ -146,26 +147,26 @@ module _ (control : Control) (flat : Flat) (may : MayStep one_page control (Ente
   }
 
   performs : (kept saved : SavedFrame) → ReadsSaved one_page before (Enter 1 7) saved →
-      Performs one_page (entry_row one_page (reads_of one_page control.phase control.queue before kept saved) 1 7 control.phase) before after (Left (Exit.Ask 0 0)) first_regs
+      Performs one_page (entry_row one_page (reads_of one_page control.phase control.queue before kept saved) 1 7 control.phase) before after (RtTurn.Leave (Exit.Ask 0 0)) first_regs
   performs kept saved reads =
       let same : program_frame ≡ saved =
       same_frame one_page room area_place (area_with program_bytes) program_frame saved program_fits reads.1 (area_has program_bytes frame_size) reads.0 in
-      subst (λ phase. Performs one_page (entry_row one_page (reads_of one_page phase control.queue before kept saved) 1 7 phase) before after (Left (Exit.Ask 0 0)) first_regs) (sym running)
-      (subst (λ queue. Performs one_page (entry_row one_page (reads_of one_page Running queue before kept saved) 1 7 Running) before after (Left (Exit.Ask 0 0)) first_regs) (sym empty)
-      (subst (λ frame. Performs one_page (entry_row one_page (reads_of one_page Running [] before kept frame) 1 7 Running) before after (Left (Exit.Ask 0 0)) first_regs) same asks))
+      subst (λ phase. Performs one_page (entry_row one_page (reads_of one_page phase control.queue before kept saved) 1 7 phase) before after (RtTurn.Leave (Exit.Ask 0 0)) first_regs) (sym running)
+      (subst (λ queue. Performs one_page (entry_row one_page (reads_of one_page Running queue before kept saved) 1 7 Running) before after (RtTurn.Leave (Exit.Ask 0 0)) first_regs) (sym empty)
+      (subst (λ frame. Performs one_page (entry_row one_page (reads_of one_page Running [] before kept frame) 1 7 Running) before after (RtTurn.Leave (Exit.Ask 0 0)) first_regs) same asks))
 
-  asking : StepsTo one_page control (Enter 1 7) (entry_regs one_page 1 7) before after granted None (Left (Exit.Ask 0 0)) first_regs
+  asking : StepsTo one_page control (Enter 1 7) (entry_regs one_page 1 7) before after granted None (RtTurn.Leave (Exit.Ask 0 0)) first_regs
   asking = record { works = λ none. (refl, λ kept saved reads_kept reads. performs kept saved reads); faults = λ t e. absurd (cc) }
 
-steps : Steps handling held_pages asked_written granted (Left (Exit.Ask 0 0)) first_regs
+steps : Steps handling held_pages asked_written granted (RtTurn.Leave (Exit.Ask 0 0)) first_regs
 steps control context flat may =
     entry_context 1 7 control flat
-    (λ (c : Context). MayStep one_page control c flat (entry_regs one_page 1 7) (memory_of (holds_of held_pages) before) → StepsTo one_page control c (entry_regs one_page 1 7) before after granted None (Left (Exit.Ask 0 0)) first_regs)
+    (λ (c : Context). MayStep one_page control c flat (entry_regs one_page 1 7) (memory_of (holds_of held_pages) before) → StepsTo one_page control c (entry_regs one_page 1 7) before after granted None (RtTurn.Leave (Exit.Ask 0 0)) first_regs)
     (asking control flat) context may.row may.registers may
 
 ask_turn : IsTurn one_page 0 handling asked (Some (Exit.Ask 0 0)) None
 ask_turn =
-    step_turn handling asked held_pages asked_written granted (Left (Exit.Ask 0 0)) first_regs refl changes
+    step_turn handling asked held_pages asked_written granted (RtTurn.Leave (Exit.Ask 0 0)) first_regs refl changes
     (record { left = refl; flushed = refl; others = λ q e. rw e refl; track = refl }) steps
 
 ask_move : IsMove one_page handling asked (Run (record { 0 = 0 }) 1) (Answer.Exit (Exit.Ask 0 0)) None

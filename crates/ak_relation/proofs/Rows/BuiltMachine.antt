@@ -19,7 +19,8 @@ use Rattle.ak_model.proofs.Paging.OneCopy.{one_copy}
 use Rattle.ak_epcm.specs.Entries.{entry_at}
 use Rattle.ak_walk.specs.Agrees.{EntryAgrees}
 use Rattle.ak_relation.specs.Program.FlatFits.{AreBytes}
-use Rattle.ak_relation.specs.State.MachineState.{Processor, State, OfCopy}
+use Rattle.ak_relation.specs.State.MachineState.{Processor, State}
+use Rattle.ak_pager.specs.RuntimePages.{OfCopy}
 use Rattle.ak_model.specs.Flat.Instructions.{number_at}
 use Rattle.ak_sealed.specs.SealedPages.{SealedPage, version}
 use Rattle.ak_relation.specs.State.Tables.{SealedPageAgrees, TablesStand}

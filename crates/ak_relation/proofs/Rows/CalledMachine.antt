@@ -15,16 +15,17 @@ use Rattle.ak_model.specs.Flat.Instructions.{with_reg, rax, rcx, rdi}
 use Rattle.ak_model.specs.Flat.FlatRuns.{Flat, End, line_of, in_first_page, line, end_of, page_bytes}
 use Rattle.ak_model.specs.Control.ControlState.{Context, Leave, Control}
 use Rattle.ak_model.specs.Misses.KeptTranslations.{is_among, same_access}
-use Rattle.ak_relation.specs.Bytes.Contexts.{step_address}
-use Rattle.ak_relation.specs.Bytes.Pages.{IsState}
+use Rattle.ak_pager.specs.Contexts.{step_address}
+use Rattle.ak_pager.specs.RuntimePages.{IsState}
 use Rattle.ak_ssa.specs.SavedFrames.{SavedFrame, frame_bytes, saved_bytes}
 use Rattle.ak_relation.specs.State.MachineState.{State}
 use Rattle.ak_relation.specs.Program.Reaching.{is_filled}
 use Rattle.ak_relation.specs.Program.Seeing.{Sees}
 use Rattle.ak_relation.specs.Premises.Computing.{Computes}
 use Rattle.ak_relation.specs.Premises.CallingOut.{CallsOut}
-use Rattle.ak_relation.specs.Premises.Rows.{left_frame, leave_row}
-use Rattle.ak_relation.specs.Premises.StepsTo.{Left, Performs, reads_of, StepsTo}
+use Rattle.ak_pager.specs.Rows.{left_frame, leave_row}
+use Rattle.ak_pager.specs.StepsTo.{Performs, reads_of, StepsTo}
+use Rattle.ak_pager.specs.declared.turn.RtTurn.{RtTurn}
 use Rattle.ak_relation.specs.Relation.Does.{IsTurn, IsMove}
 use Rattle.ak_relation.specs.Relation.MoveByMove.{AreMoves}
 use Rattle.ak_relation.specs.Relation.Example.{one_page, input_program, called_past, IsReached}
@@ -230,7 +231,7 @@ abbrev after : ℕ → List ℕ
 after = over called_written before
 
 module _ (control : Control) (none_in : control.queue ≡ []) where
-  leaves : (kept saved : SavedFrame) → Performs one_page (leave_row one_page (reads_of one_page control.phase [] before kept saved) leaving_regs 2 0) before after (Left (Exit.Call 2 0)) leaving_regs
+  leaves : (kept saved : SavedFrame) → Performs one_page (leave_row one_page (reads_of one_page control.phase [] before kept saved) leaving_regs 2 0) before after (RtTurn.Leave (Exit.Call 2 0)) leaving_regs
   leaves kept saved = record {
     ends = refl;
     state = record {
@@ -244,22 +245,22 @@ module _ (control : Control) (none_in : control.queue ≡ []) where
     others = λ p apart areas. state_alone (state_with 2 0 0 kept_frame_bytes) before p apart;
   }
 
-  leave_step : StepsTo one_page control (Leave 2 0) leaving_regs before after granted None (Left (Exit.Call 2 0)) leaving_regs
+  leave_step : StepsTo one_page control (Leave 2 0) leaving_regs before after granted None (RtTurn.Leave (Exit.Call 2 0)) leaving_regs
   leave_step = record {
-    works = λ none. (refl, λ kept saved reads_kept reads. subst (λ queue. Performs one_page (leave_row one_page (reads_of one_page control.phase queue before kept saved) leaving_regs 2 0) before after (Left (Exit.Call 2 0)) leaving_regs) (sym none_in) (leaves kept saved));
+    works = λ none. (refl, λ kept saved reads_kept reads. subst (λ queue. Performs one_page (leave_row one_page (reads_of one_page control.phase queue before kept saved) leaving_regs 2 0) before after (RtTurn.Leave (Exit.Call 2 0)) leaving_regs) (sym none_in) (leaves kept saved));
     faults = λ t e. absurd (cc);
   }
 
-steps : Steps leaving held_pages called_written granted (Left (Exit.Call 2 0)) leaving_regs
+steps : Steps leaving held_pages called_written granted (RtTurn.Leave (Exit.Call 2 0)) leaving_regs
 steps control context flat may =
     let state : IsState one_page control.phase control.queue flat one_slot = may.state in
     leave_context control flat leaving_regs refl
-    (λ (c : Context). StepsTo one_page control c leaving_regs before after granted None (Left (Exit.Call 2 0)) leaving_regs)
+    (λ (c : Context). StepsTo one_page control c leaving_regs before after granted None (RtTurn.Leave (Exit.Call 2 0)) leaving_regs)
     (leave_step control (no_queue control.queue (sym same_kept.0 ∙ state.size))) context may.row may.registers
 
 leave_turn : IsTurn one_page 0 leaving called (Some (Exit.Call 2 0)) None
 leave_turn =
-    step_turn leaving called held_pages called_written granted (Left (Exit.Call 2 0)) leaving_regs refl changes
+    step_turn leaving called held_pages called_written granted (RtTurn.Leave (Exit.Call 2 0)) leaving_regs refl changes
     (record { left = refl; flushed = refl; others = λ q e. rw e refl; track = refl }) steps
 
 -- four turns are a run

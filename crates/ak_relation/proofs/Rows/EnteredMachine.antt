@@ -5,7 +5,7 @@ use Rattle.ak_core.specs.declared.page.Lp.{Lp}
 use Rattle.ak_core.specs.declared.moves.Move.TheVariants.{Eenter, Interrupt}
 use Rattle.ak_core.specs.declared.moves.Answer.TheVariants.{Ok}
 use Rattle.ak_core.specs.declared.registers.Regs.{Regs}
-use Rattle.ak_relation.specs.Bytes.Contexts.{entry_regs}
+use Rattle.ak_pager.specs.Contexts.{entry_regs}
 use Rattle.ak_relation.specs.Bytes.Pages.{IsTcs, flag_number}
 use Rattle.ak_ssa.specs.SavedFrames.{NoCause, SavedFrame, frame_bytes, saved_bytes}
 use Rattle.ak_ssa.specs.SavedRegisters.{AreRegs}

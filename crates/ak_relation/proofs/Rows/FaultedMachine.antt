@@ -17,7 +17,8 @@ use Rattle.ak_ssa.specs.SavedRegisters.{AreRegs}
 use Rattle.ak_relation.specs.State.MachineState.{State}
 use Rattle.ak_relation.specs.Premises.EnterRows.{enter_row}
 use Rattle.ak_relation.specs.Premises.Saving.{Saves}
-use Rattle.ak_relation.specs.Premises.StepsTo.{Went, MayStep, memory_of}
+use Rattle.ak_pager.specs.StepsTo.{MayStep, memory_of}
+use Rattle.ak_pager.specs.declared.turn.RtTurn.{RtTurn}
 use Rattle.ak_relation.specs.Relation.Does.{IsTurn, IsMove}
 use Rattle.ak_relation.specs.Relation.MoveByMove.{AreMoves}
 use Rattle.ak_relation.specs.Relation.Example.{one_page, input_program, trying_past, faulted_past, IsReached}
@@ -72,7 +73,7 @@ entry_changes = record {
 
 entry_turn : IsTurn one_page 0 trying first None None
 entry_turn =
-    step_turn trying first entry_pages [] entry_granted Went (step_regs 48 0) refl entry_changes
+    step_turn trying first entry_pages [] entry_granted RtTurn.Go (step_regs 48 0) refl entry_changes
     (record { regs_are = refl; inside = refl; fills = refl; tcs = refl; ssa = refl; others = λ q e. rw e refl; track = refl }) (entry_steps asked refl)
 
 -- ---- The fault

@@ -14,14 +14,15 @@ use Rattle.ak_model.specs.Paging.Pages.{flags_for}
 use Rattle.ak_model.specs.Flat.FlatRuns.{Flat}
 use Rattle.ak_model.specs.Control.ControlState.{Phase, Asked, Context, Enter, Probe, Finish, Control}
 use Rattle.ak_model.specs.Control.RuntimeTurn.{probed}
-use Rattle.ak_relation.specs.Bytes.Contexts.{entry_regs}
-use Rattle.ak_relation.specs.Bytes.Pages.{IsState}
+use Rattle.ak_pager.specs.Contexts.{entry_regs}
+use Rattle.ak_pager.specs.RuntimePages.{IsState}
 use Rattle.ak_ssa.specs.SavedFrames.{NoCause, SavedFrame, frame_bytes, saved_bytes}
 use Rattle.ak_relation.specs.State.MachineState.{State}
 use Rattle.ak_relation.specs.State.TableChanges.{with_mapping}
 use Rattle.ak_relation.specs.Premises.EnterRows.{enter_row}
-use Rattle.ak_relation.specs.Premises.Rows.{entry_row, finish_row}
-use Rattle.ak_relation.specs.Premises.StepsTo.{Went, Left, Performs, ReadsKept, reads_of, StepsTo}
+use Rattle.ak_pager.specs.Rows.{entry_row, finish_row}
+use Rattle.ak_pager.specs.StepsTo.{Performs, ReadsKept, reads_of, StepsTo}
+use Rattle.ak_pager.specs.declared.turn.RtTurn.{RtTurn}
 use Rattle.ak_relation.specs.Relation.Does.{IsTurn, IsMove}
 use Rattle.ak_relation.specs.Relation.MoveByMove.{AreMoves}
 use Rattle.ak_relation.specs.Relation.Example.{one_page, input_program, restored_past, probing_past, ready_past, IsReached}
@@ -86,17 +87,17 @@ module _ (base : State) (has : bytes_of (entered_with base 1 7 one_saved) 5 ≡ 
   entry_bytes = bytes_of (entered_with base 1 7 one_saved)
 
   entry_performs : (control : Control) → control.phase ≡ Asked 0 → (kept saved : SavedFrame) →
-      Performs one_page (entry_row one_page (reads_of one_page control.phase control.queue entry_bytes kept saved) 1 7 control.phase) entry_bytes entry_bytes Went (step_regs 48 0)
+      Performs one_page (entry_row one_page (reads_of one_page control.phase control.queue entry_bytes kept saved) 1 7 control.phase) entry_bytes entry_bytes RtTurn.Go (step_regs 48 0)
   entry_performs control is kept saved =
-      subst (λ phase. Performs one_page (entry_row one_page (reads_of one_page phase control.queue entry_bytes kept saved) 1 7 phase) entry_bytes entry_bytes Went (step_regs 48 0)) (sym is)
+      subst (λ phase. Performs one_page (entry_row one_page (reads_of one_page phase control.queue entry_bytes kept saved) 1 7 phase) entry_bytes entry_bytes RtTurn.Go (step_regs 48 0)) (sym is)
       (record { ends = (refl, record { mode = refl; rip = refl }, refl); state = refl; areas = λ i lt. refl; others = λ p apart areas. refl })
 
-  entry_step : (control : Control) → control.phase ≡ Asked 0 → StepsTo one_page control (Enter 1 7) (entry_regs one_page 1 7) entry_bytes entry_bytes entry_granted None Went (step_regs 48 0)
+  entry_step : (control : Control) → control.phase ≡ Asked 0 → StepsTo one_page control (Enter 1 7) (entry_regs one_page 1 7) entry_bytes entry_bytes entry_granted None RtTurn.Go (step_regs 48 0)
   entry_step control is = record { works = λ none. (refl, λ kept saved reads_kept reads. entry_performs control is kept saved); faults = λ t e. absurd (cc) }
 
-  pub entry_steps : Steps (entered_with base 1 7 one_saved) entry_pages [] entry_granted Went (step_regs 48 0)
+  pub entry_steps : Steps (entered_with base 1 7 one_saved) entry_pages [] entry_granted RtTurn.Go (step_regs 48 0)
   entry_steps control context flat may =
-      entry_context 1 7 control flat (λ (c : Context). StepsTo one_page control c (entry_regs one_page 1 7) entry_bytes entry_bytes entry_granted None Went (step_regs 48 0))
+      entry_context 1 7 control flat (λ (c : Context). StepsTo one_page control c (entry_regs one_page 1 7) entry_bytes entry_bytes entry_granted None RtTurn.Go (step_regs 48 0))
       (entry_step control (asks control.phase control.queue flat (subst (IsState one_page control.phase control.queue flat) has may.state))) context may.row may.registers
 
 -- the machine
@@ -122,7 +123,7 @@ entry_changes = record {
 
 entry_turn : IsTurn one_page 0 probing first None None
 entry_turn =
-    step_turn probing first entry_pages [] entry_granted Went (step_regs 48 0) refl entry_changes
+    step_turn probing first entry_pages [] entry_granted RtTurn.Go (step_regs 48 0) refl entry_changes
     (record { regs_are = refl; inside = refl; fills = refl; tcs = refl; ssa = refl; others = λ q e. rw e refl; track = refl }) (entry_steps restored refl)
 
 -- ---- The probe
@@ -154,22 +155,22 @@ probe_changes = record {
   queue = refl;
 }
 
-probe_step : (control : Control) → control.phase ≡ Asked 0 → StepsTo one_page control (Probe 0) (step_regs 48 0) (bytes_of first) (bytes_of first) probe_granted None Went (step_regs 48 1)
+probe_step : (control : Control) → control.phase ≡ Asked 0 → StepsTo one_page control (Probe 0) (step_regs 48 0) (bytes_of first) (bytes_of first) probe_granted None RtTurn.Go (step_regs 48 1)
 probe_step control is = record {
   works = λ none. (sym (ap (λ phase. access_to 6 Exec ∷ access_to 5 Write ∷ probed one_page phase 0 ∷ []) is), λ kept saved reads_kept reads. record { ends = (refl, record { mode = refl; rip = refl }, refl); state = refl; areas = λ i lt. refl; others = λ p apart areas. refl });
   faults = λ t e. absurd (cc);
 }
 
-probe_steps : Steps first probe_pages [] probe_granted Went (step_regs 48 1)
+probe_steps : Steps first probe_pages [] probe_granted RtTurn.Go (step_regs 48 1)
 probe_steps control context flat may =
     let is = asks control.phase control.queue flat may.state in
     probe_context control flat is
-    (λ (c : Context). StepsTo one_page control c (step_regs 48 0) (bytes_of first) (bytes_of first) probe_granted None Went (step_regs 48 1))
+    (λ (c : Context). StepsTo one_page control c (step_regs 48 0) (bytes_of first) (bytes_of first) probe_granted None RtTurn.Go (step_regs 48 1))
     (probe_step control is) context may.row may.registers
 
 probe_turn : IsTurn one_page 0 first second None None
 probe_turn =
-    step_turn first second probe_pages [] probe_granted Went (step_regs 48 1) refl probe_changes
+    step_turn first second probe_pages [] probe_granted RtTurn.Go (step_regs 48 1) refl probe_changes
     (record { regs_are = refl; inside = refl; fills = refl; tcs = refl; ssa = refl; others = λ q e. rw e refl; track = refl }) probe_steps
 
 -- ---- The end of the probes
@@ -221,7 +222,7 @@ abbrev after : ℕ → List ℕ
 after = over ready_written before
 
 module _ (control : Control) (flat : Flat) (is : control.phase ≡ Asked 0) (none_in : control.queue ≡ []) where
-  finishes : (kept saved : SavedFrame) → Performs one_page (finish_row (reads_of one_page (Asked 0) [] before (record kept { regs = first_regs }) saved) (Asked 0)) before after (Left Exit.Ready) first_regs
+  finishes : (kept saved : SavedFrame) → Performs one_page (finish_row (reads_of one_page (Asked 0) [] before (record kept { regs = first_regs }) saved) (Asked 0)) before after (RtTurn.Leave Exit.Ready) first_regs
   finishes kept saved = record {
     ends = refl;
     state = record {
@@ -236,27 +237,27 @@ module _ (control : Control) (flat : Flat) (is : control.phase ≡ Asked 0) (non
   }
 
   finish_performs : (kept saved : SavedFrame) → ReadsKept one_page control.phase asked_state kept →
-      Performs one_page (finish_row (reads_of one_page control.phase control.queue before kept saved) control.phase) before after (Left Exit.Ready) first_regs
+      Performs one_page (finish_row (reads_of one_page control.phase control.queue before kept saved) control.phase) before after (RtTurn.Leave Exit.Ready) first_regs
   finish_performs kept saved reads =
       let reads_one : ReadsKept one_page (Asked 0) asked_state kept = subst (λ phase. ReadsKept one_page phase asked_state kept) is reads in
       let same : first_regs ≡ kept.regs = same_regs asked_state program_frame kept first_words reads_one.1 (state_frame 3 0 0 program_bytes frame_size) reads_one.0 in
-      subst (λ phase. Performs one_page (finish_row (reads_of one_page phase control.queue before kept saved) phase) before after (Left Exit.Ready) first_regs) (sym is)
-      (subst (λ queue. Performs one_page (finish_row (reads_of one_page (Asked 0) queue before kept saved) (Asked 0)) before after (Left Exit.Ready) first_regs) (sym none_in)
-      (subst (λ (regs : Regs). Performs one_page (finish_row (reads_of one_page (Asked 0) [] before (record kept { regs = regs }) saved) (Asked 0)) before after (Left Exit.Ready) first_regs) same (finishes kept saved)))
+      subst (λ phase. Performs one_page (finish_row (reads_of one_page phase control.queue before kept saved) phase) before after (RtTurn.Leave Exit.Ready) first_regs) (sym is)
+      (subst (λ queue. Performs one_page (finish_row (reads_of one_page (Asked 0) queue before kept saved) (Asked 0)) before after (RtTurn.Leave Exit.Ready) first_regs) (sym none_in)
+      (subst (λ (regs : Regs). Performs one_page (finish_row (reads_of one_page (Asked 0) [] before (record kept { regs = regs }) saved) (Asked 0)) before after (RtTurn.Leave Exit.Ready) first_regs) same (finishes kept saved)))
 
-  finish_step : StepsTo one_page control Finish (step_regs 48 1) before after entry_granted None (Left Exit.Ready) first_regs
+  finish_step : StepsTo one_page control Finish (step_regs 48 1) before after entry_granted None (RtTurn.Leave Exit.Ready) first_regs
   finish_step = record { works = λ none. (refl, λ kept saved reads_kept reads. finish_performs kept saved reads_kept); faults = λ t e. absurd (cc) }
 
-finish_steps : Steps second entry_pages ready_written entry_granted (Left Exit.Ready) first_regs
+finish_steps : Steps second entry_pages ready_written entry_granted (RtTurn.Leave Exit.Ready) first_regs
 finish_steps control context flat may =
     let is = asks control.phase control.queue flat may.state in
     finish_context control flat is
-    (λ (c : Context). StepsTo one_page control c (step_regs 48 1) before after entry_granted None (Left Exit.Ready) first_regs)
+    (λ (c : Context). StepsTo one_page control c (step_regs 48 1) before after entry_granted None (RtTurn.Leave Exit.Ready) first_regs)
     (finish_step control flat is (empty control.phase control.queue flat may.state)) context may.row may.registers
 
 finish_turn : IsTurn one_page 0 second ready (Some Exit.Ready) None
 finish_turn =
-    step_turn second ready entry_pages ready_written entry_granted (Left Exit.Ready) first_regs refl finish_changes
+    step_turn second ready entry_pages ready_written entry_granted (RtTurn.Leave Exit.Ready) first_regs refl finish_changes
     (record { left = refl; flushed = refl; others = λ q e. rw e refl; track = refl }) finish_steps
 
 -- three turns are a run

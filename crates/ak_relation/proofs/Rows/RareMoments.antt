@@ -9,8 +9,8 @@ use Rattle.ak_model.specs.Control.ControlState.{Running, Asked, Context, Program
 use Rattle.ak_model.specs.Control.Trace.{Moment, trace}
 use Rattle.ak_model.specs.Flat.Instructions.{reg_of, rax}
 use Rattle.ak_model.specs.Laws.OwedAnswers.{oldest, owing_by}
-use Rattle.ak_relation.specs.Bytes.Contexts.{GivesNow}
-use Rattle.ak_relation.specs.Bytes.Pages.{KeepsFrame}
+use Rattle.ak_pager.specs.Contexts.{GivesNow}
+use Rattle.ak_pager.specs.RuntimePages.{KeepsFrame}
 use Rattle.ak_relation.specs.Program.FlatPlaces.{IsAtBy, Reaches}
 use Rattle.ak_relation.specs.Program.Reaching.{BreaksStand}
 use Rattle.ak_relation.specs.State.MachineState.{State}

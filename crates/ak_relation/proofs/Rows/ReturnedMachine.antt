@@ -12,13 +12,14 @@ use Rattle.ak_core.specs.declared.registers.Regs.{Regs}
 use Rattle.ak_model.specs.Flat.Instructions.{with_reg, rax}
 use Rattle.ak_model.specs.Flat.FlatRuns.{Flat}
 use Rattle.ak_model.specs.Control.ControlState.{Calling, Context, Enter, Control}
-use Rattle.ak_relation.specs.Bytes.Contexts.{entry_regs}
+use Rattle.ak_pager.specs.Contexts.{entry_regs}
 use Rattle.ak_ssa.specs.SavedFrames.{SavedFrame}
 use Rattle.ak_ssa.specs.SavedRegisters.{AreRegs}
 use Rattle.ak_relation.specs.State.MachineState.{State}
 use Rattle.ak_relation.specs.Premises.EnterRows.{enter_row}
-use Rattle.ak_relation.specs.Premises.Rows.{entry_row}
-use Rattle.ak_relation.specs.Premises.StepsTo.{Went, Performs, ReadsKept, reads_of, MayStep, StepsTo, memory_of}
+use Rattle.ak_pager.specs.Rows.{entry_row}
+use Rattle.ak_pager.specs.StepsTo.{Performs, ReadsKept, reads_of, MayStep, StepsTo, memory_of}
+use Rattle.ak_pager.specs.declared.turn.RtTurn.{RtTurn}
 use Rattle.ak_relation.specs.Relation.Does.{IsTurn, IsMove}
 use Rattle.ak_relation.specs.Relation.MoveByMove.{AreMoves}
 use Rattle.ak_relation.specs.Relation.Example.{one_page, input_program, answering_past, returned_past, IsReached}
@@ -114,7 +115,7 @@ module _ (control : Control) (flat : Flat) (may : MayStep one_page control (Ente
   empty : control.queue ≡ []
   empty = let state = may.state in no_queue control.queue (sym (state_size 2 0 0 kept_frame_bytes) ∙ state.size)
 
-  returns : (kept saved : SavedFrame) → Performs one_page (entry_row one_page (reads_of one_page Calling [] before (record kept { regs = after_regs }) saved) 0 9 Calling) before after Went returned_regs
+  returns : (kept saved : SavedFrame) → Performs one_page (entry_row one_page (reads_of one_page Calling [] before (record kept { regs = after_regs }) saved) 0 9 Calling) before after RtTurn.Go returned_regs
   returns kept saved = record {
     ends = (refl, refl);
     state = record {
@@ -129,26 +130,26 @@ module _ (control : Control) (flat : Flat) (may : MayStep one_page control (Ente
   }
 
   performs : (kept saved : SavedFrame) → ReadsKept one_page control.phase calling_state kept →
-      Performs one_page (entry_row one_page (reads_of one_page control.phase control.queue before kept saved) 0 9 control.phase) before after Went returned_regs
+      Performs one_page (entry_row one_page (reads_of one_page control.phase control.queue before kept saved) 0 9 control.phase) before after RtTurn.Go returned_regs
   performs kept saved reads =
       let reads_one : ReadsKept one_page Calling calling_state kept = subst (λ phase. ReadsKept one_page phase calling_state kept) calling reads in
       let same : after_regs ≡ kept.regs = same_regs calling_state kept_frame kept kept_words reads_one.1 (state_frame 2 0 0 kept_frame_bytes kept_size) reads_one.0 in
-      subst (λ phase. Performs one_page (entry_row one_page (reads_of one_page phase control.queue before kept saved) 0 9 phase) before after Went returned_regs) (sym calling)
-      (subst (λ queue. Performs one_page (entry_row one_page (reads_of one_page Calling queue before kept saved) 0 9 Calling) before after Went returned_regs) (sym empty)
-      (subst (λ (regs : Regs). Performs one_page (entry_row one_page (reads_of one_page Calling [] before (record kept { regs = regs }) saved) 0 9 Calling) before after Went returned_regs) same (returns kept saved)))
+      subst (λ phase. Performs one_page (entry_row one_page (reads_of one_page phase control.queue before kept saved) 0 9 phase) before after RtTurn.Go returned_regs) (sym calling)
+      (subst (λ queue. Performs one_page (entry_row one_page (reads_of one_page Calling queue before kept saved) 0 9 Calling) before after RtTurn.Go returned_regs) (sym empty)
+      (subst (λ (regs : Regs). Performs one_page (entry_row one_page (reads_of one_page Calling [] before (record kept { regs = regs }) saved) 0 9 Calling) before after RtTurn.Go returned_regs) same (returns kept saved)))
 
-  return_step : StepsTo one_page control (Enter 0 9) (entry_regs one_page 0 9) before after granted None Went returned_regs
+  return_step : StepsTo one_page control (Enter 0 9) (entry_regs one_page 0 9) before after granted None RtTurn.Go returned_regs
   return_step = record { works = λ none. (refl, λ kept saved reads_kept reads. performs kept saved reads_kept); faults = λ t e. absurd (cc) }
 
-steps : Steps answering held_pages returned_written granted Went returned_regs
+steps : Steps answering held_pages returned_written granted RtTurn.Go returned_regs
 steps control context flat may =
     entry_context 0 9 control flat
-    (λ (c : Context). MayStep one_page control c flat (entry_regs one_page 0 9) (memory_of (holds_of held_pages) before) → StepsTo one_page control c (entry_regs one_page 0 9) before after granted None Went returned_regs)
+    (λ (c : Context). MayStep one_page control c flat (entry_regs one_page 0 9) (memory_of (holds_of held_pages) before) → StepsTo one_page control c (entry_regs one_page 0 9) before after granted None RtTurn.Go returned_regs)
     (return_step control flat) context may.row may.registers may
 
 return_turn : IsTurn one_page 0 answering returned None None
 return_turn =
-    step_turn answering returned held_pages returned_written granted Went returned_regs refl changes
+    step_turn answering returned held_pages returned_written granted RtTurn.Go returned_regs refl changes
     (record { regs_are = refl; inside = refl; fills = refl; tcs = refl; ssa = refl; others = λ q e. rw e refl; track = refl }) steps
 
 return_move : IsMove one_page answering returned (Run (record { 0 = 0 }) 1) (Answer.Exit Exit.Still) None

@@ -6,11 +6,12 @@ use Rattle.ak_core.specs.declared.page.Kind.TheVariants.{Write, Exec}
 use Rattle.ak_core.specs.declared.registers.Regs.{Regs}
 use Rattle.ak_model.specs.Flat.FlatRuns.{Flat, zeroed}
 use Rattle.ak_model.specs.Control.ControlState.{Phase, New, Running, Calling, Asked, Ended, Trapped, Dead, Context, Enter, Control}
-use Rattle.ak_relation.specs.Bytes.Pages.{phase_number, IsState}
+use Rattle.ak_pager.specs.RuntimePages.{phase_number, IsState}
 use Rattle.ak_ssa.specs.SavedFrames.{SavedFrame}
 use Rattle.ak_relation.specs.State.MachineState.{Processor, State}
-use Rattle.ak_relation.specs.Premises.Rows.{kept_bytes, entry_row}
-use Rattle.ak_relation.specs.Premises.StepsTo.{Went, HasState, Performs, reads_of, StepsTo}
+use Rattle.ak_pager.specs.Rows.{kept_bytes, entry_row}
+use Rattle.ak_pager.specs.StepsTo.{HasState, Performs, reads_of, StepsTo}
+use Rattle.ak_pager.specs.declared.turn.RtTurn.{RtTurn}
 use Rattle.ak_relation.specs.Relation.Does.{IsTurn}
 use Rattle.ak_relation.specs.Relation.Example.{one_page}
 use Rattle.ak_relation.proofs.Rows.BlankPages.{blank, blank_at, one_slot, one_slot_whole, slot_number, same_kept}
@@ -99,22 +100,22 @@ module _ (control : Control) (flat : Flat) (state : IsState one_page control.pha
     frame_is = same_kept.2;
   }
 
-  performs : (kept saved : SavedFrame) → Performs one_page (entry_row one_page (reads_of one_page control.phase control.queue before kept saved) 0 7 control.phase) before after Went first_regs
+  performs : (kept saved : SavedFrame) → Performs one_page (entry_row one_page (reads_of one_page control.phase control.queue before kept saved) 0 7 control.phase) before after RtTurn.Go first_regs
   performs kept saved =
-      subst (λ (p : Phase). Performs one_page (entry_row one_page (reads_of one_page control.phase control.queue before kept saved) 0 7 p) before after Went first_regs)
+      subst (λ (p : Phase). Performs one_page (entry_row one_page (reads_of one_page control.phase control.queue before kept saved) 0 7 p) before after RtTurn.Go first_regs)
       (sym (phase_new control.phase (sym (blank_at 0 8) ∙ state.phase_is)))
       (record { ends = (refl, refl); state = has_state; areas = all_areas one_slot before; others = λ p apart areas. state_alone one_slot before p apart })
 
-  start_step : StepsTo one_page control (Enter 0 7) its_regs before after granted None Went first_regs
+  start_step : StepsTo one_page control (Enter 0 7) its_regs before after granted None RtTurn.Go first_regs
   start_step = record { works = λ none. (refl, λ kept saved reads_kept reads. performs kept saved); faults = λ t e. absurd (cc) }
 
-steps : Steps begun held_pages started_written granted Went first_regs
+steps : Steps begun held_pages started_written granted RtTurn.Go first_regs
 steps control context flat may =
-    entry_context 0 7 control flat (λ (c : Context). StepsTo one_page control c its_regs before after granted None Went first_regs) (start_step control flat may.state)
+    entry_context 0 7 control flat (λ (c : Context). StepsTo one_page control c its_regs before after granted None RtTurn.Go first_regs) (start_step control flat may.state)
     context may.row may.registers
 
 -- the turn
 pub start_turn : IsTurn one_page 0 begun started None None
 start_turn =
-    step_turn begun started held_pages started_written granted Went first_regs refl changes
+    step_turn begun started held_pages started_written granted RtTurn.Go first_regs refl changes
     (record { regs_are = refl; inside = refl; fills = refl; tcs = refl; ssa = refl; others = λ q e. rw e refl; track = refl }) steps

@@ -8,8 +8,8 @@ use Rattle.ak_model.specs.Flat.FlatRuns.{Flat, zeroed}
 use Rattle.ak_model.specs.Control.ControlState.{Phase, New, Running, Calling, Asked, Ended, Trapped, Dead, Context, Program, Enter, Probe, Finish, Guard, Leave, Control}
 use Rattle.ak_model.specs.Control.RuntimeTurn.{asked_pages}
 use Rattle.ak_model.specs.Laws.StepRows.{HasRow}
-use Rattle.ak_relation.specs.Bytes.Contexts.{step_address, entry_regs, Gives}
-use Rattle.ak_relation.specs.Bytes.Pages.{phase_number, SaysMore}
+use Rattle.ak_pager.specs.Contexts.{step_address, entry_regs, Gives}
+use Rattle.ak_pager.specs.RuntimePages.{phase_number, SaysMore}
 use Rattle.ak_relation.specs.Relation.Example.{one_page}
 use Rattle.ak_ssa.specs.SavedFrames.{SavedFrame, state_place, HasFrame, why_of}
 use Rattle.ak_ssa.specs.SavedRegisters.{AreRegs, regs_in}

@@ -18,7 +18,7 @@ use Rattle.ak_model.specs.Control.ControlState.{Context, Control}
 use Rattle.ak_model.specs.Control.RuntimeTurn.{accesses, shown_fault}
 use Rattle.ak_model.specs.Laws.Orderly.{after_miss_if}
 use Rattle.ak_epcm.specs.Entries.{entry_at}
-use Rattle.ak_relation.specs.Bytes.Contexts.{entry_regs}
+use Rattle.ak_pager.specs.Contexts.{entry_regs}
 use Rattle.ak_relation.specs.Bytes.Pages.{IsTcs}
 use Rattle.ak_relation.specs.State.MachineState.{Processor, State}
 use Rattle.ak_relation.specs.State.MachineView.{held_in}
@@ -30,7 +30,8 @@ use Rattle.ak_track.specs.Steps.{EntersBy, LeavesBy}
 use Rattle.ak_relation.specs.Premises.EnterRows.{walk_in, saved_in, enter_row}
 use Rattle.ak_relation.specs.Premises.Entering.{EntersAt}
 use Rattle.ak_relation.specs.Premises.Saving.{missed_in, Saves}
-use Rattle.ak_relation.specs.Premises.StepsTo.{Outcome, Refused, MayStep, StepsTo, memory_of}
+use Rattle.ak_pager.specs.StepsTo.{MayStep, StepsTo, memory_of}
+use Rattle.ak_pager.specs.declared.turn.RtTurn.{RtTurn}
 use Rattle.ak_relation.specs.Premises.Works.{AreFound, WritesFrames, Ends, exit_of}
 use Rattle.ak_relation.specs.Premises.Shows.{MemorySees, StepLeaves, ShowsStep}
 use Rattle.ak_relation.specs.Relation.Does.{IsTurn, IsMove}
@@ -195,7 +196,7 @@ module _ (old new : State) (qs : List ℕ) (ws : List Written) (granted : List A
       let w = writes_by one_page past (holds_of qs) (bytes_of old) (over ws (bytes_of old)) old new h writes in
       record { memory = w.read; found = finds granted c.seen; lost = tt }
 
-  step_leaves : (outcome : Outcome) (regs : Regs) → Ends 0 outcome regs old new → StepLeaves one_page past 0 (holds_of qs) (bytes_of old) (over ws (bytes_of old)) outcome regs old new
+  step_leaves : (outcome : RtTurn) (regs : Regs) → Ends 0 outcome regs old new → StepLeaves one_page past 0 (holds_of qs) (bytes_of old) (over ws (bytes_of old)) outcome regs old new
   step_leaves outcome regs ends = record {
     writes = writes_by one_page past (holds_of qs) (bytes_of old) (over ws (bytes_of old)) old new h writes;
     kept = record {
@@ -213,13 +214,13 @@ module _ (old new : State) (qs : List ℕ) (ws : List Written) (granted : List A
   }
 
 -- the step, wherever it is defined for these registers and bytes
-abbrev pub Steps : State → List ℕ → List Written → List Access → Outcome → Regs → Type 0
+abbrev pub Steps : State → List ℕ → List Written → List Access → RtTurn → Regs → Type 0
 Steps old qs ws granted outcome regs =
     (control : Control) (context : Context) (flat : Flat) → MayStep one_page control context flat (old.processors 0).regs (memory_of (holds_of qs) (bytes_of old)) →
     StepsTo one_page control context (old.processors 0).regs (bytes_of old) (over ws (bytes_of old)) granted None outcome regs
 
 -- it is a turn
-pub step_turn : (old new : State) (qs : List ℕ) (ws : List Written) (granted : List Access) (outcome : Outcome) (regs : Regs) → (old.processors 0).regs.mode ≡ Mode.Runtime →
+pub step_turn : (old new : State) (qs : List ℕ) (ws : List Written) (granted : List Access) (outcome : RtTurn) (regs : Regs) → (old.processors 0).regs.mode ≡ Mode.Runtime →
     Changes old new qs ws granted → Ends 0 outcome regs old new → Steps old qs ws granted outcome regs → IsTurn one_page 0 old new (exit_of one_page outcome) None
 step_turn old new qs ws granted outcome regs mode c ends steps = valid_turns one_page page_valid refl (record { 0 = 0 }) old new outcome shows
   where
@@ -245,14 +246,14 @@ pub refused_turn : (old new : State) (qs : List ℕ) (granted : List Access) (t 
     ((later : List Access) × (granted ++ t ∷ later ≡ accesses one_page control context))) →
     ((saved : ℕ) (pending : Bool) → IsTcs saved pending (old.frames (old.processors 0).tcs) → Saves one_page 0 saved true (ByPage t) old new) →
     IsTurn one_page 0 old new (Some (shown_fault one_page)) None
-refused_turn old new qs granted t mode c low lost next saves = valid_turns one_page page_valid refl (record { 0 = 0 }) old new (Refused t) shows
+refused_turn old new qs granted t mode c low lost next saves = valid_turns one_page page_valid refl (record { 0 = 0 }) old new (RtTurn.Faulted t) shows
   where
     sees : (past : History) → TablesStand one_page past old → MemorySees one_page past (holds_of qs) (bytes_of old) granted (Some t) old
     sees past h =
         let seen = step_sees old old qs [] granted c past h in
         record { memory = seen.memory; found = seen.found; lost = sym (walk_same one_page past old h t.page.0 t.kind low) ∙ lost }
 
-    shows : ShowsStep one_page 0 old new (Refused t)
+    shows : ShowsStep one_page 0 old new (RtTurn.Faulted t)
     shows = record {
       mode = mode;
       holds = holds_of qs;
@@ -263,7 +264,7 @@ refused_turn old new qs granted t mode c low lost next saves = valid_turns one_p
       regs = (old.processors 0).regs;
       steps = λ control context flat may. record {
         works = λ none. absurd (cc);
-        faults = λ s e. (let same : t ≡ s = cc in subst (λ a. ((later : List Access) × (granted ++ a ∷ later ≡ accesses one_page control context)) × (bytes_of old ≡ bytes_of old) × ((old.processors 0).regs ≡ (old.processors 0).regs) × (Refused t ≡ Refused a)) same (next control context flat may, refl, refl, refl));
+        faults = λ s e. (let same : t ≡ s = cc in subst (λ a. ((later : List Access) × (granted ++ a ∷ later ≡ accesses one_page control context)) × (bytes_of old ≡ bytes_of old) × ((old.processors 0).regs ≡ (old.processors 0).regs) × (RtTurn.Faulted t ≡ RtTurn.Faulted a)) same (next control context flat may, refl, refl, refl));
       };
       sees = sees;
       works = λ none. absurd (cc);

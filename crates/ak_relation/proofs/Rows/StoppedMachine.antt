@@ -14,11 +14,12 @@ use Rattle.ak_core.specs.declared.registers.Mode.{Mode}
 use Rattle.ak_model.specs.Paging.Pages.{ssa_page}
 use Rattle.ak_model.specs.Flat.FlatRuns.{Flat, zeroed}
 use Rattle.ak_model.specs.Control.ControlState.{Running, Context, Enter, Control}
-use Rattle.ak_relation.specs.Bytes.Contexts.{entry_regs, step_address}
+use Rattle.ak_pager.specs.Contexts.{entry_regs, step_address}
 use Rattle.ak_relation.specs.State.MachineState.{State, Processor}
 use Rattle.ak_relation.specs.Premises.EnterRows.{enter_row, resume_row}
-use Rattle.ak_relation.specs.Premises.Rows.{guard_frame, entry_row}
-use Rattle.ak_relation.specs.Premises.StepsTo.{Died, Performs, ReadsSaved, reads_of, MayStep, StepsTo, memory_of}
+use Rattle.ak_pager.specs.Rows.{guard_frame, entry_row}
+use Rattle.ak_pager.specs.StepsTo.{Performs, ReadsSaved, reads_of, MayStep, StepsTo, memory_of}
+use Rattle.ak_pager.specs.declared.turn.RtTurn.{RtTurn}
 use Rattle.ak_relation.specs.Premises.Resuming.{ResumesAt}
 use Rattle.ak_relation.specs.Relation.Does.{IsTurn, IsMove}
 use Rattle.ak_relation.specs.Relation.MoveByMove.{AreMoves}
@@ -113,7 +114,7 @@ guards : (i : ℕ) → i < 1 → HasFrame one_page area_place (after (ssa_page o
 guards zero lt = area_has guard_bytes guard_size
 guards (suc i) lt = absurd (omega arith)
 
-stops : Performs one_page (entry_row one_page (reads_of one_page Running (0 ∷ []) before program_frame program_frame) 1 7 Running) before after (Died its_cause) first_regs
+stops : Performs one_page (entry_row one_page (reads_of one_page Running (0 ∷ []) before program_frame program_frame) 1 7 Running) before after (RtTurn.Dead its_cause) first_regs
 stops = record {
   ends = refl;
   state = record {
@@ -137,26 +138,26 @@ module _ (control : Control) (flat : Flat) (may : MayStep one_page control (Ente
       one_queue control.queue (state_with 1 0 1 program_bytes) (sym (state_size 1 0 1 program_bytes) ∙ state.size) state.clusters (state_first 1 0 1 program_bytes)
 
   performs : (kept saved : SavedFrame) → ReadsSaved one_page before (Enter 1 7) saved →
-      Performs one_page (entry_row one_page (reads_of one_page control.phase control.queue before kept saved) 1 7 control.phase) before after (Died its_cause) first_regs
+      Performs one_page (entry_row one_page (reads_of one_page control.phase control.queue before kept saved) 1 7 control.phase) before after (RtTurn.Dead its_cause) first_regs
   performs kept saved reads =
       let same : program_frame ≡ saved =
       same_frame one_page room area_place (area_with program_bytes) program_frame saved program_fits reads.1 (area_has program_bytes frame_size) reads.0 in
-      subst (λ phase. Performs one_page (entry_row one_page (reads_of one_page phase control.queue before kept saved) 1 7 phase) before after (Died its_cause) first_regs) (sym running)
-      (subst (λ queue. Performs one_page (entry_row one_page (reads_of one_page Running queue before kept saved) 1 7 Running) before after (Died its_cause) first_regs) (sym full)
-      (subst (λ frame. Performs one_page (entry_row one_page (reads_of one_page Running (0 ∷ []) before kept frame) 1 7 Running) before after (Died its_cause) first_regs) same stops))
+      subst (λ phase. Performs one_page (entry_row one_page (reads_of one_page phase control.queue before kept saved) 1 7 phase) before after (RtTurn.Dead its_cause) first_regs) (sym running)
+      (subst (λ queue. Performs one_page (entry_row one_page (reads_of one_page Running queue before kept saved) 1 7 Running) before after (RtTurn.Dead its_cause) first_regs) (sym full)
+      (subst (λ frame. Performs one_page (entry_row one_page (reads_of one_page Running (0 ∷ []) before kept frame) 1 7 Running) before after (RtTurn.Dead its_cause) first_regs) same stops))
 
-  stop_step : StepsTo one_page control (Enter 1 7) (entry_regs one_page 1 7) before after granted None (Died its_cause) first_regs
+  stop_step : StepsTo one_page control (Enter 1 7) (entry_regs one_page 1 7) before after granted None (RtTurn.Dead its_cause) first_regs
   stop_step = record { works = λ none. (refl, λ kept saved reads_kept reads. performs kept saved reads); faults = λ t e. absurd (cc) }
 
-steps : Steps stopping held_pages stopped_written granted (Died its_cause) first_regs
+steps : Steps stopping held_pages stopped_written granted (RtTurn.Dead its_cause) first_regs
 steps control context flat may =
     entry_context 1 7 control flat
-    (λ (c : Context). MayStep one_page control c flat (entry_regs one_page 1 7) (memory_of (holds_of held_pages) before) → StepsTo one_page control c (entry_regs one_page 1 7) before after granted None (Died its_cause) first_regs)
+    (λ (c : Context). MayStep one_page control c flat (entry_regs one_page 1 7) (memory_of (holds_of held_pages) before) → StepsTo one_page control c (entry_regs one_page 1 7) before after granted None (RtTurn.Dead its_cause) first_regs)
     (stop_step control flat) context may.row may.registers may
 
 stop_turn : IsTurn one_page 0 stopping stopped (Some Exit.Stopped) None
 stop_turn =
-    step_turn stopping stopped held_pages stopped_written granted (Died its_cause) first_regs refl changes
+    step_turn stopping stopped held_pages stopped_written granted (RtTurn.Dead its_cause) first_regs refl changes
     (record { left = refl; flushed = refl; others = λ q e. rw e refl; track = refl }) steps
 
 stop_move : IsMove one_page stopping stopped (Run (record { 0 = 0 }) 1) (Answer.Exit Exit.Stopped) None

@@ -16,14 +16,15 @@ use Rattle.ak_model.specs.Misses.Reached.{permitted_accesses}
 use Rattle.ak_model.specs.Misses.KeptTranslations.{is_among}
 use Rattle.ak_model.specs.Paging.Pages.{ssa_page}
 use Rattle.ak_model.specs.Control.ControlState.{Running, Context, Enter, Control}
-use Rattle.ak_relation.specs.Bytes.Contexts.{entry_regs}
+use Rattle.ak_pager.specs.Contexts.{entry_regs}
 use Rattle.ak_relation.specs.Program.Seeing.{Sees}
 use Rattle.ak_relation.specs.State.MachineState.{State}
 use Rattle.ak_relation.specs.Premises.Faulting.{Traps}
 use Rattle.ak_relation.specs.Premises.Saving.{Saves}
 use Rattle.ak_relation.specs.Premises.EnterRows.{enter_row}
-use Rattle.ak_relation.specs.Premises.Rows.{guard_frame, entry_row}
-use Rattle.ak_relation.specs.Premises.StepsTo.{Left, Performs, ReadsSaved, reads_of, MayStep, StepsTo, memory_of}
+use Rattle.ak_pager.specs.Rows.{guard_frame, entry_row}
+use Rattle.ak_pager.specs.StepsTo.{Performs, ReadsSaved, reads_of, MayStep, StepsTo, memory_of}
+use Rattle.ak_pager.specs.declared.turn.RtTurn.{RtTurn}
 use Rattle.ak_relation.specs.Relation.Does.{IsTurn, IsMove}
 use Rattle.ak_relation.specs.Relation.MoveByMove.{AreMoves}
 use Rattle.ak_relation.specs.Relation.Example.{one_page, input_program, raised_past, trapping_past, trapped_past, IsReached}
@@ -189,12 +190,12 @@ guards : (i : ℕ) → i < 1 → HasFrame one_page area_place (after (ssa_page o
 guards zero lt = area_has guard_bytes guard_size
 guards (suc i) lt = absurd (omega arith)
 
-ends : (kept : SavedFrame) → Performs one_page (entry_row one_page (reads_of one_page Running [] before kept raised_frame) 1 7 Running) before after (Left (Exit.Trapped 6)) first_regs
+ends : (kept : SavedFrame) → Performs one_page (entry_row one_page (reads_of one_page Running [] before kept raised_frame) 1 7 Running) before after (RtTurn.Leave (Exit.Trapped 6)) first_regs
 ends kept = record {
   ends = refl;
   state = record {
     phase_is = state_phase 5 6 0 kept_frame_bytes;
-    more = state_status 5 6 0 kept_frame_bytes;
+    more = (state_status 5 6 0 kept_frame_bytes, omega arith);
     size = state_size 5 6 0 kept_frame_bytes;
     clusters = no_clusters trapped_state;
     frame_is = state_frame 5 6 0 kept_frame_bytes kept_size ∙ sym (state_frame 1 0 0 kept_frame_bytes kept_size);
@@ -211,26 +212,26 @@ module _ (control : Control) (flat : Flat) (may : MayStep one_page control (Ente
   empty = let state = may.state in no_queue control.queue (sym (state_size 1 0 0 kept_frame_bytes) ∙ state.size)
 
   performs : (kept saved : SavedFrame) → ReadsSaved one_page before (Enter 1 7) saved →
-      Performs one_page (entry_row one_page (reads_of one_page control.phase control.queue before kept saved) 1 7 control.phase) before after (Left (Exit.Trapped 6)) first_regs
+      Performs one_page (entry_row one_page (reads_of one_page control.phase control.queue before kept saved) 1 7 control.phase) before after (RtTurn.Leave (Exit.Trapped 6)) first_regs
   performs kept saved reads =
       let same : raised_frame ≡ saved =
       same_frame one_page room area_place (area_with raised_bytes) raised_frame saved raised_fits reads.1 (area_has raised_bytes frame_size) reads.0 in
-      subst (λ phase. Performs one_page (entry_row one_page (reads_of one_page phase control.queue before kept saved) 1 7 phase) before after (Left (Exit.Trapped 6)) first_regs) (sym running)
-      (subst (λ queue. Performs one_page (entry_row one_page (reads_of one_page Running queue before kept saved) 1 7 Running) before after (Left (Exit.Trapped 6)) first_regs) (sym empty)
-      (subst (λ frame. Performs one_page (entry_row one_page (reads_of one_page Running [] before kept frame) 1 7 Running) before after (Left (Exit.Trapped 6)) first_regs) same (ends kept)))
+      subst (λ phase. Performs one_page (entry_row one_page (reads_of one_page phase control.queue before kept saved) 1 7 phase) before after (RtTurn.Leave (Exit.Trapped 6)) first_regs) (sym running)
+      (subst (λ queue. Performs one_page (entry_row one_page (reads_of one_page Running queue before kept saved) 1 7 Running) before after (RtTurn.Leave (Exit.Trapped 6)) first_regs) (sym empty)
+      (subst (λ frame. Performs one_page (entry_row one_page (reads_of one_page Running [] before kept frame) 1 7 Running) before after (RtTurn.Leave (Exit.Trapped 6)) first_regs) same (ends kept)))
 
-  trap_step : StepsTo one_page control (Enter 1 7) (entry_regs one_page 1 7) before after granted None (Left (Exit.Trapped 6)) first_regs
+  trap_step : StepsTo one_page control (Enter 1 7) (entry_regs one_page 1 7) before after granted None (RtTurn.Leave (Exit.Trapped 6)) first_regs
   trap_step = record { works = λ none. (refl, λ kept saved reads_kept reads. performs kept saved reads); faults = λ t e. absurd (cc) }
 
-steps : Steps trapping held_pages trapped_written granted (Left (Exit.Trapped 6)) first_regs
+steps : Steps trapping held_pages trapped_written granted (RtTurn.Leave (Exit.Trapped 6)) first_regs
 steps control context flat may =
     entry_context 1 7 control flat
-    (λ (c : Context). MayStep one_page control c flat (entry_regs one_page 1 7) (memory_of (holds_of held_pages) before) → StepsTo one_page control c (entry_regs one_page 1 7) before after granted None (Left (Exit.Trapped 6)) first_regs)
+    (λ (c : Context). MayStep one_page control c flat (entry_regs one_page 1 7) (memory_of (holds_of held_pages) before) → StepsTo one_page control c (entry_regs one_page 1 7) before after granted None (RtTurn.Leave (Exit.Trapped 6)) first_regs)
     (trap_step control flat) context may.row may.registers may
 
 trap_turn : IsTurn one_page 0 trapping trapped (Some (Exit.Trapped 6)) None
 trap_turn =
-    step_turn trapping trapped held_pages trapped_written granted (Left (Exit.Trapped 6)) first_regs refl changes
+    step_turn trapping trapped held_pages trapped_written granted (RtTurn.Leave (Exit.Trapped 6)) first_regs refl changes
     (record { left = refl; flushed = refl; others = λ q e. rw e refl; track = refl }) steps
 
 trap_move : IsMove one_page trapping trapped (Run (record { 0 = 0 }) 1) (Answer.Exit (Exit.Trapped 6)) None

@@ -16,13 +16,13 @@ use Rattle.ak_model.specs.Laws.StepRows.{HasRow, IsInRow}
 use Rattle.ak_model.specs.Laws.Orderly.{ContextFits, NowFits, ReasonFits, StackFits, PhaseFits}
 use Rattle.ak_model.proofs.Control.OrderlyTurns.{in_row}
 use Rattle.ak_relation.specs.State.MachineState.{State}
-use Rattle.ak_relation.specs.Bytes.Contexts.{Gives, GivesNow}
+use Rattle.ak_pager.specs.Contexts.{Gives, GivesNow}
 use Rattle.ak_model.specs.Laws.OwedAnswers.{Owing, Settled, Owed, Unknown, owing}
 use Rattle.ak_relation.specs.Program.FlatPlaces.{IsAtBy, IsAfterCall}
 use Rattle.ak_relation.specs.Bytes.Pages.{CopiesStand}
 use Rattle.ak_relation.specs.Premises.Leaves.{AreFewer}
 use Rattle.ak_relation.specs.Relation.Stands.{copies_at, Stands}
-use Rattle.ak_relation.specs.Premises.StepsTo.{IsSmall, IsReason, AreReasons, IsAskedFor, memory_of, MayStep}
+use Rattle.ak_pager.specs.StepsTo.{IsSmall, IsReason, AreReasons, IsAskedFor, memory_of, MayStep}
 use Rattle.ak_relation.specs.Premises.Works.{IsStep, IsMemory}
 use Rattle.ak_relation.specs.Relation.Does.{at_moment}
 use Rattle.ak_relation.proofs.Leaves.Fewer.{copies-fewer}

@@ -21,15 +21,17 @@ use Rattle.ak_model.specs.Tapes.ProgramTurns.{ProgramTurn}
 use Rattle.ak_model.specs.Laws.Orderly.{ContextFits, NowFits, is_live}
 use Rattle.ak_model.proofs.Control.OrderlySteps.{ClustersFit}
 use Rattle.ak_ssa.specs.FramesFit.{HasRoom}
-use Rattle.ak_relation.specs.State.MachineState.{State, OfCopy}
-use Rattle.ak_relation.specs.Bytes.Contexts.{Gives}
+use Rattle.ak_relation.specs.State.MachineState.{State}
+use Rattle.ak_pager.specs.RuntimePages.{OfCopy, IsState}
+use Rattle.ak_pager.specs.Contexts.{Gives}
 use Rattle.ak_model.specs.Laws.OwedAnswers.{owing_running}
 use Rattle.ak_relation.specs.Program.FlatPlaces.{IsAtBy}
-use Rattle.ak_relation.specs.Bytes.Pages.{IsState, CopiesStand}
+use Rattle.ak_relation.specs.Bytes.Pages.{CopiesStand}
 use Rattle.ak_relation.specs.Program.Turns.{is_last, is_last_call}
 use Rattle.ak_relation.specs.Relation.Stands.{copies_at, Stands}
-use Rattle.ak_relation.specs.Premises.Rows.{Row, leaving}
-use Rattle.ak_relation.specs.Premises.StepsTo.{Outcome, Went, Left, Died, HasState, Performs}
+use Rattle.ak_pager.specs.Rows.{Row, leaving}
+use Rattle.ak_pager.specs.StepsTo.{HasState, Performs}
+use Rattle.ak_pager.specs.declared.turn.RtTurn.{RtTurn}
 use Rattle.ak_relation.specs.Premises.Works.{IsStep, AreFound, Writes, KeepsTables, Ends, exit_of, named_by, CauseIs}
 use Rattle.ak_relation.specs.Relation.Does.{with_rest, turn_to, TurnFollows, past_after, at_moment, GoesTo}
 use Rattle.ak_model.proofs.Tapes.Calls.{other_now}
@@ -40,7 +42,7 @@ use Rattle.ak_relation.proofs.Runtime.StepLaws.{Keeps}
 use Rattle.ak_relation.proofs.Runtime.RowTurns.{RowBytes, row_goes, row_leaves}
 
 -- a step at a place: all its accesses were found, and the machine shows this outcome
-pub record Case (layout : Layout) (image : List ℕ) (past : History) (control : Control) (turns : List ProgramTurn) (old new : State) (lp : Lp) (context : Context) (outcome : Outcome) (regs : Regs) : Type 0 where
+pub record Case (layout : Layout) (image : List ℕ) (past : History) (control : Control) (turns : List ProgramTurn) (old new : State) (lp : Lp) (context : Context) (outcome : RtTurn) (regs : Regs) : Type 0 where
   pub fit : ClustersFit layout
   pub walks : steps_walk layout.build ≡ true
   pub room : HasRoom layout
@@ -65,7 +67,7 @@ last_none [] context e = e
 last_none (saved ∷ []) context e = refl
 last_none (saved ∷ next ∷ older) context e = last_none (next ∷ older) context e
 
-module _ (layout : Layout) (image : List ℕ) (past : History) (control : Control) (turns : List ProgramTurn) (old new : State) (lp : Lp) (context : Context) (outcome : Outcome) (regs : Regs)
+module _ (layout : Layout) (image : List ℕ) (past : History) (control : Control) (turns : List ProgramTurn) (old new : State) (lp : Lp) (context : Context) (outcome : RtTurn) (regs : Regs)
     (c : Case layout image past control turns old new lp context outcome regs) where
   -- what the context may be
   pub context_fits : ContextFits layout control.phase (length control.stack) context
@@ -90,14 +92,14 @@ module _ (layout : Layout) (image : List ℕ) (past : History) (control : Contro
       new_copy layout past c.holds c.before c.after old new c.writes (state_page layout) (IsState layout phase queue flat) state_held (state_said layout phase flat queue frame (c.after (state_page layout)) s f)
 
   -- what the step comes to
-  abbrev pub Comes : ℕ → Outcome → Type 0
+  abbrev pub Comes : ℕ → RtTurn → Type 0
   Comes all o = (g : GoesTo layout image (TurnFollows layout lp.0 past (exit_of layout o)) (at_moment past control turns old) (past_after past lp.0 all (exit_of layout o)) new None) × CauseIs control o g.control.cause
 
   module _ (all : ℕ) (next : Control) (keeps : Keeps control next turns) where
     -- the row goes on, or leaves with this exit
     pub goes_by : (context_next : Context) → next.now ≡ Some context_next → (more : List ℕ) → control.returned ++ more ≡ next.returned → next.stack ≡ control.stack →
         ((later : List Event) → effect layout (with_rest control later) context ≡ turn_to None (with_rest next later)) → (b : RowBytes layout image past turns new next) →
-        Gives layout next.phase b.flat context_next regs → next.cause ≡ control.cause → outcome ≡ Went → Comes all outcome
+        Gives layout next.phase b.flat context_next regs → next.cause ≡ control.cause → outcome ≡ RtTurn.Go → Comes all outcome
     goes_by context_next is_next more grown same effects b gives cause_is went =
         subst (λ o. Ends lp.0 o regs old new → Comes all o) (sym went)
         (λ g. let s = row_goes layout c.fit c.walks image past control turns old new lp c.place all context c.h c.is c.step c.now next keeps c.kept regs g context_next is_next more grown same
@@ -105,7 +107,7 @@ module _ (layout : Layout) (image : List ℕ) (past : History) (control : Contro
 
     pub leaves_by : (exit : Exit) → change (Run lp all) (Answer.Exit exit) ≡ Exits lp.0 exit → next.now ≡ None → control.returned ≡ next.returned →
         ((later : List Event) → effect layout (with_rest control later) context ≡ turn_to (Some exit) (with_rest next later)) → RowBytes layout image past turns new next → next.cause ≡ control.cause →
-        outcome ≡ Left exit → Comes all outcome
+        outcome ≡ RtTurn.Leave exit → Comes all outcome
     leaves_by exit e none same effects b cause_is left =
         subst (λ o. Ends lp.0 o regs old new → Comes all o) (sym left)
         (λ q. let s = row_leaves layout c.fit c.walks image past control turns old new lp c.place all context c.h c.is c.step c.now next keeps c.kept q exit e none same
@@ -114,7 +116,7 @@ module _ (layout : Layout) (image : List ℕ) (past : History) (control : Contro
     -- or the enclave dies
     pub dies_by : (cause : StopCause) → next.now ≡ None → control.returned ≡ next.returned →
         ((later : List Event) → effect layout (with_rest control later) context ≡ turn_to (Some Exit.Stopped) (with_rest next later)) → RowBytes layout image past turns new next → next.cause ≡ first_cause control.cause (named_by cause) →
-        outcome ≡ Died cause → Comes all outcome
+        outcome ≡ RtTurn.Dead cause → Comes all outcome
     dies_by cause none same effects b cause_is died =
         subst (λ o. Ends lp.0 o regs old new → Comes all o) (sym died)
         (λ q. let s = row_leaves layout c.fit c.walks image past control turns old new lp c.place all context c.h c.is c.step c.now next keeps c.kept q Exit.Stopped refl none same

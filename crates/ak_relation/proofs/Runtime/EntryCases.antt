@@ -14,10 +14,11 @@ use Rattle.ak_model.specs.Laws.Orderly.{StackFits}
 use Rattle.ak_ssa.specs.SavedFrames.{SavedFrame}
 use Rattle.ak_ssa.specs.SavedRegisters.{AreRegs}
 use Rattle.ak_relation.specs.State.MachineState.{State}
-use Rattle.ak_relation.specs.Bytes.Pages.{IsArea, AreasStand, KeepsFrame, IsState}
+use Rattle.ak_pager.specs.RuntimePages.{IsArea, AreasStand, KeepsFrame, IsState}
 use Rattle.ak_relation.specs.Relation.Stands.{copies_at}
-use Rattle.ak_relation.specs.Premises.Rows.{Reads, guard_frame, saved_row, entry_row}
-use Rattle.ak_relation.specs.Premises.StepsTo.{Outcome, Performs, ReadsKept, reads_of, WorksBy}
+use Rattle.ak_pager.specs.Rows.{Reads, guard_frame, saved_row, entry_row}
+use Rattle.ak_pager.specs.StepsTo.{Performs, ReadsKept, reads_of, WorksBy}
+use Rattle.ak_pager.specs.declared.turn.RtTurn.{RtTurn}
 use Rattle.ak_relation.specs.Relation.Does.{with_rest}
 use Rattle.ak_relation.proofs.Runtime.RowPages.{old_copy}
 use Rattle.ak_relation.proofs.Runtime.Cases.{Case, Comes, context_fits, found_all, state_held}
@@ -46,7 +47,7 @@ kept_of layout (Ended s) flat bytes h = record { frame = guard_frame layout; rea
 kept_of layout (Trapped x) flat bytes h = record { frame = guard_frame layout; reads = tt; regs = tt }
 kept_of layout Dead flat bytes h = record { frame = guard_frame layout; reads = tt; regs = tt }
 
-module _ (layout : Layout) (image : List ℕ) (past : History) (control : Control) (turns : List ProgramTurn) (old new : State) (lp : Lp) (context : Context) (outcome : Outcome) (regs : Regs)
+module _ (layout : Layout) (image : List ℕ) (past : History) (control : Control) (turns : List ProgramTurn) (old new : State) (lp : Lp) (context : Context) (outcome : RtTurn) (regs : Regs)
     (c : Case layout image past control turns old new lp context outcome regs) where
   -- what STATE's bytes say
   state_read : IsState layout control.phase control.queue c.h.bytes.flat (c.before (state_page layout))
@@ -76,7 +77,7 @@ pair (saved ∷ []) h = absurd (omega arith)
 pair (saved ∷ next ∷ []) h = (saved, next, refl)
 pair (saved ∷ next ∷ more ∷ older) h = absurd (omega arith)
 
-module _ (layout : Layout) (image : List ℕ) (past : History) (control : Control) (turns : List ProgramTurn) (old new : State) (lp : Lp) (v : ℕ) (outcome : Outcome) (regs before : Regs) (all : ℕ) where
+module _ (layout : Layout) (image : List ℕ) (past : History) (control : Control) (turns : List ProgramTurn) (old new : State) (lp : Lp) (v : ℕ) (outcome : RtTurn) (regs before : Regs) (all : ℕ) where
   -- a step in this context
   abbrev pub At : Context → Type 0
   At context = Case layout image past control turns old new lp context outcome regs

@@ -22,7 +22,7 @@ use Rattle.ak_model.specs.Laws.Orderly.{after_miss_if, NowFits, is_live}
 use Rattle.ak_model.proofs.Control.OrderlySteps.{ClustersFit}
 use Rattle.ak_ssa.specs.SavedFrames.{ByPage}
 use Rattle.ak_relation.specs.State.MachineState.{State}
-use Rattle.ak_relation.specs.Bytes.Contexts.{Gives, GivesNow, reason_for, IsNoted}
+use Rattle.ak_pager.specs.Contexts.{Gives, GivesNow, reason_for, IsNoted}
 use Rattle.ak_model.specs.Laws.OwedAnswers.{oldest, owing_by}
 use Rattle.ak_relation.specs.Program.FlatPlaces.{IsAtBy}
 use Rattle.ak_relation.specs.Program.Turns.{is_last}

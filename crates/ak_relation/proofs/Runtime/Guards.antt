@@ -16,15 +16,17 @@ use Rattle.ak_model.specs.Tapes.ProgramTurns.{ProgramTurn}
 use Rattle.ak_ssa.specs.SavedFrames.{SavedFrame, frame_bytes, area_place, HasFrame}
 use Rattle.ak_ssa.specs.SavedRegisters.{AreWords, AreRegs}
 use Rattle.ak_ssa.specs.FramesFit.{FrameFits, HasRoom}
-use Rattle.ak_relation.specs.State.MachineState.{State, OfCopy}
+use Rattle.ak_relation.specs.State.MachineState.{State}
+use Rattle.ak_pager.specs.RuntimePages.{OfCopy, IsArea, AreasStand}
 use Rattle.ak_model.specs.Laws.OwedAnswers.{owing, owing_by}
 use Rattle.ak_relation.specs.Program.FlatPlaces.{IsAtBy}
-use Rattle.ak_relation.specs.Bytes.Pages.{IsArea, AreasStand, CopiesStand}
+use Rattle.ak_relation.specs.Bytes.Pages.{CopiesStand}
 use Rattle.ak_relation.specs.Program.Reaching.{BreaksStand}
 use Rattle.ak_relation.specs.Program.Turns.{ends_by, is_last_call}
 use Rattle.ak_relation.specs.Relation.Stands.{copies_at, runs_at}
-use Rattle.ak_relation.specs.Premises.Rows.{Row, StepEnd, StateSets, AreasGuard, Reads, kept_bytes, area_bytes, guard_frame, dying, trapping, asking}
-use Rattle.ak_relation.specs.Premises.StepsTo.{Outcome, Left, Performs}
+use Rattle.ak_pager.specs.Rows.{Row, StepEnd, StateSets, AreasGuard, Reads, kept_bytes, area_bytes, guard_frame, dying, trapping, asking}
+use Rattle.ak_pager.specs.StepsTo.{Performs}
+use Rattle.ak_pager.specs.declared.turn.RtTurn.{RtTurn}
 use Rattle.ak_relation.specs.Premises.Works.{named_by}
 use Rattle.ak_relation.specs.Relation.Does.{with_rest}
 use Rattle.ak_relation.proofs.Runtime.RowPages.{FrameIs, new_copy, pages_by}
@@ -44,7 +46,7 @@ guard_fits layout room = record { words = record { sixteen = refl; words = zero_
 abbrev guarding : Phase → List ℕ → List ℕ → ℕ → StepEnd → Row
 guarding phase queue frame areas ends = record { state = StateSets phase queue frame; areas = AreasGuard areas; ends = ends }
 
-module _ (layout : Layout) (image : List ℕ) (past : History) (control : Control) (turns : List ProgramTurn) (old new : State) (lp : Lp) (context : Context) (outcome : Outcome) (regs : Regs)
+module _ (layout : Layout) (image : List ℕ) (past : History) (control : Control) (turns : List ProgramTurn) (old new : State) (lp : Lp) (context : Context) (outcome : RtTurn) (regs : Regs)
     (c : Case layout image past control turns old new lp context outcome regs) where
   -- an area with the guard's frame
   guard_area : (i : ℕ) (phase : Phase) (queue : List ℕ) → c.holds (ssa_page layout i) ≡ true → HasFrame layout area_place (c.after (ssa_page layout i)) (guard_frame layout) →
@@ -60,7 +62,7 @@ module _ (layout : Layout) (image : List ℕ) (past : History) (control : Contro
       pages_by layout past c.holds c.before c.after old new c.writes (guarding phase queue frame n ends) outcome regs p control.phase phase control.queue queue c.h.bytes.flat control.stack stack control.pending size
       c.h.bytes.pages (state_set layout image past control turns old new lp context outcome regs c phase queue frame c.h.bytes.flat p.state f) areas
 
-module _ (layout : Layout) (image : List ℕ) (past : History) (control : Control) (turns : List ProgramTurn) (old new : State) (lp : Lp) (v : ℕ) (outcome : Outcome) (regs : Regs)
+module _ (layout : Layout) (image : List ℕ) (past : History) (control : Control) (turns : List ProgramTurn) (old new : State) (lp : Lp) (v : ℕ) (outcome : RtTurn) (regs : Regs)
     (c : Case layout image past control turns old new lp (Enter 1 v) outcome regs) (all : ℕ) (r : Reads) (same : r.queue ≡ control.queue) (saved : Saved) (one : control.stack ≡ saved ∷ []) where
   top : guard_top control.stack ≡ guard ∷ []
   top = ap guard_top one
@@ -124,7 +126,7 @@ module _ (layout : Layout) (image : List ℕ) (past : History) (control : Contro
           pages = subst (λ q. CopiesStand layout (Asked n) (drop (drops layout q n) q) (guard_top control.stack) control.pending c.h.bytes.flat (copies_at layout past new)) same
               (pages (Asked n) (drop (drops layout r.queue n) r.queue) (area_bytes r.first) _ p (frame, has, frame_is, words));
           breaks = breaks (asked n) refl;
-        }) refl (p.ends ∙ ap (λ q. Left (Exit.Ask (drops layout q n) n)) same)
+        }) refl (p.ends ∙ ap (λ q. RtTurn.Leave (Exit.Ask (drops layout q n) n)) same)
 
   -- the control state of a dead enclave
   abbrev dead : Cause → Control
@@ -143,7 +145,7 @@ module _ (layout : Layout) (image : List ℕ) (past : History) (control : Contro
         breaks = breaks (dead cause) refl;
       }) (ap (first_cause control.cause) same_cause) p.ends
 
-module _ (layout : Layout) (image : List ℕ) (past : History) (control : Control) (turns : List ProgramTurn) (old new : State) (lp : Lp) (v : ℕ) (outcome : Outcome) (regs : Regs)
+module _ (layout : Layout) (image : List ℕ) (past : History) (control : Control) (turns : List ProgramTurn) (old new : State) (lp : Lp) (v : ℕ) (outcome : RtTurn) (regs : Regs)
     (c : Case layout image past control turns old new lp (Enter 2 v) outcome regs) (all : ℕ) (r : Reads) (same : r.queue ≡ control.queue) (newest oldest_one : Saved) (two : control.stack ≡ newest ∷ oldest_one ∷ []) where
   both : guarded_twice control.stack ≡ guard ∷ guard ∷ []
   both = ap guarded_twice two

@@ -12,12 +12,14 @@ use Rattle.ak_model.specs.Tapes.ProgramTurns.{ProgramTurn}
 use Rattle.ak_model.specs.Control.ControlState.{Phase, New, Running, Calling, Asked, Ended, Trapped, Dead, Saved}
 use Rattle.ak_ssa.specs.SavedFrames.{SavedFrame, frame_bytes}
 use Rattle.ak_ssa.specs.SavedRegisters.{AreRegs}
-use Rattle.ak_relation.specs.State.MachineState.{State, OfCopy}
-use Rattle.ak_relation.specs.Bytes.Pages.{IsTcs, IsArea, AreasStand, KeepsFrame, IsState, CopiesStand}
+use Rattle.ak_relation.specs.State.MachineState.{State}
+use Rattle.ak_pager.specs.RuntimePages.{OfCopy, IsArea, AreasStand, KeepsFrame, IsState}
+use Rattle.ak_relation.specs.Bytes.Pages.{IsTcs, CopiesStand}
 use Rattle.ak_relation.specs.Program.Reaching.{IsForcedBy, BreaksStand}
 use Rattle.ak_relation.specs.Relation.Stands.{copies_at}
-use Rattle.ak_relation.specs.Premises.Rows.{Row}
-use Rattle.ak_relation.specs.Premises.StepsTo.{Outcome, HasState, Performs}
+use Rattle.ak_pager.specs.Rows.{Row}
+use Rattle.ak_pager.specs.StepsTo.{HasState, Performs}
+use Rattle.ak_pager.specs.declared.turn.RtTurn.{RtTurn}
 use Rattle.ak_relation.specs.Premises.Works.{AreFound, Writes}
 
 -- the frame that a phase keeps, if it keeps one, has the program's registers
@@ -75,7 +77,7 @@ module _ (layout : Layout) (past : History) (holds : ℕ → Bool) (before after
     breaks_stay runs turns same older (omega arith) h.1,
   )
 
-  module _ (row : Row) (outcome : Outcome) (regs : Regs) (p : Performs layout row before after outcome regs) where
+  module _ (row : Row) (outcome : RtTurn) (regs : Regs) (p : Performs layout row before after outcome regs) where
     -- all pages, given STATE and the areas
     pub pages_by : (phase new_phase : Phase) (queue new_queue : List ℕ) (flat : Flat) (stack new_stack : List Saved) (pending : Bool) → length new_stack ≡ length stack →
         CopiesStand layout phase queue stack pending flat (copies_at layout past old) →

@@ -20,7 +20,7 @@ use Rattle.ak_model.specs.Laws.Premises.{IsLater}
 use Rattle.ak_model.specs.Tapes.ProgramTurns.{ProgramTurn}
 use Rattle.ak_model.proofs.Control.OrderlySteps.{ClustersFit}
 use Rattle.ak_relation.specs.State.MachineState.{State}
-use Rattle.ak_relation.specs.Bytes.Contexts.{Gives, GivesNow}
+use Rattle.ak_pager.specs.Contexts.{Gives, GivesNow}
 use Rattle.ak_relation.specs.Program.FlatPlaces.{IsAt}
 use Rattle.ak_relation.specs.Bytes.Pages.{CopiesStand}
 use Rattle.ak_relation.specs.Program.Reaching.{BreaksStand}

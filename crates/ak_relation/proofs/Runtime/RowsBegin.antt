@@ -16,12 +16,14 @@ use Rattle.ak_model.specs.Laws.Orderly.{is_live}
 use Rattle.ak_relation.specs.State.MachineState.{State}
 use Rattle.ak_model.specs.Laws.OwedAnswers.{oldest, owing_by, owing}
 use Rattle.ak_relation.specs.Program.FlatPlaces.{IsAtBy, Reaches}
-use Rattle.ak_relation.specs.Bytes.Pages.{AreasStand, CopiesStand}
+use Rattle.ak_relation.specs.Bytes.Pages.{CopiesStand}
+use Rattle.ak_pager.specs.RuntimePages.{AreasStand}
 use Rattle.ak_relation.specs.Program.Turns.{IsFresh, is_last, has_ended, events_by}
 use Rattle.ak_relation.specs.Program.Reaching.{BreaksStand}
 use Rattle.ak_relation.specs.Relation.Stands.{copies_at, runs_at}
-use Rattle.ak_relation.specs.Premises.Rows.{Reads, kept_bytes, entry_row}
-use Rattle.ak_relation.specs.Premises.StepsTo.{Outcome, HasState, Performs}
+use Rattle.ak_pager.specs.Rows.{Reads, kept_bytes, entry_row}
+use Rattle.ak_pager.specs.StepsTo.{HasState, Performs}
+use Rattle.ak_pager.specs.declared.turn.RtTurn.{RtTurn}
 use Rattle.ak_relation.proofs.Runtime.RowPages.{pages_by}
 use Rattle.ak_relation.proofs.Runtime.CallAnswers.{with_answer, answered_reaches}
 use Rattle.ak_relation.proofs.Runtime.Cases.{Case, Comes, context_fits, goes_by, state_set}
@@ -42,7 +44,7 @@ pub nothing : (stack : List Saved) → length stack ≡ 0 → stack ≡ []
 nothing [] h = refl
 nothing (saved ∷ older) h = absurd (omega arith)
 
-module _ (layout : Layout) (image : List ℕ) (past : History) (control : Control) (turns : List ProgramTurn) (old new : State) (lp : Lp) (v : ℕ) (outcome : Outcome) (regs : Regs)
+module _ (layout : Layout) (image : List ℕ) (past : History) (control : Control) (turns : List ProgramTurn) (old new : State) (lp : Lp) (v : ℕ) (outcome : RtTurn) (regs : Regs)
     (c : Case layout image past control turns old new lp (Enter 0 v) outcome regs) (all : ℕ) where
   empty : control.stack ≡ []
   empty = let fits = context_fits layout image past control turns old new lp (Enter 0 v) outcome regs c in nothing control.stack (sym fits.0)

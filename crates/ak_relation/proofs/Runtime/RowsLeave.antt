@@ -17,14 +17,16 @@ use Rattle.ak_model.specs.Tapes.ProgramTurns.{ProgramTurn}
 use Rattle.ak_ssa.specs.SavedFrames.{frame_bytes}
 use Rattle.ak_ssa.specs.SavedRegisters.{AreWords, AreRegs}
 use Rattle.ak_relation.specs.State.MachineState.{State}
-use Rattle.ak_relation.specs.Bytes.Contexts.{IsAtStep, SameButRip}
+use Rattle.ak_pager.specs.Contexts.{IsAtStep, SameButRip}
 use Rattle.ak_model.specs.Laws.OwedAnswers.{Owing, Settled, Owed, Unknown, owing}
 use Rattle.ak_relation.specs.Program.FlatPlaces.{IsAtBy, IsAfterCall}
-use Rattle.ak_relation.specs.Bytes.Pages.{AreasStand, CopiesStand}
+use Rattle.ak_relation.specs.Bytes.Pages.{CopiesStand}
+use Rattle.ak_pager.specs.RuntimePages.{AreasStand}
 use Rattle.ak_relation.specs.Program.Reaching.{BreaksStand}
 use Rattle.ak_relation.specs.Relation.Stands.{copies_at, runs_at}
-use Rattle.ak_relation.specs.Premises.Rows.{Row, Reads, kept_bytes, left_frame, leave_row, guard_row}
-use Rattle.ak_relation.specs.Premises.StepsTo.{Outcome, HasState, Performs}
+use Rattle.ak_pager.specs.Rows.{Row, Reads, kept_bytes, left_frame, leave_row, guard_row}
+use Rattle.ak_pager.specs.StepsTo.{HasState, Performs}
+use Rattle.ak_pager.specs.declared.turn.RtTurn.{RtTurn}
 use Rattle.ak_relation.specs.Program.Turns.{is_last_call}
 use Rattle.ak_relation.proofs.Runtime.Allowed.{call_regs}
 use Rattle.ak_relation.proofs.Runtime.RowPages.{FrameIs, pages_by}
@@ -59,7 +61,7 @@ kept_regs regs flat same rip mode =
     ∙ ap (λ x. make flat.gpr flat.rip flat.cf flat.zf flat.sf x Mode.Program) same.of
     ∙ ap (λ x. make flat.gpr flat.rip flat.cf flat.zf flat.sf flat.of x) (sym mode)
 
-module _ (layout : Layout) (image : List ℕ) (past : History) (control : Control) (turns : List ProgramTurn) (old new : State) (lp : Lp) (context : Context) (outcome : Outcome) (regs : Regs)
+module _ (layout : Layout) (image : List ℕ) (past : History) (control : Control) (turns : List ProgramTurn) (old new : State) (lp : Lp) (context : Context) (outcome : RtTurn) (regs : Regs)
     (c : Case layout image past control turns old new lp context outcome regs) (all : ℕ) (r : Reads) (same : r.queue ≡ control.queue) (empty : control.stack ≡ []) where
   -- the pages, where the row sets STATE alone and nothing is saved
   pub set_pages : (row : Row) (phase : Phase) (frame : List ℕ) → Performs layout row c.before c.after outcome regs → HasState phase r.queue frame (c.after (state_page layout)) →
@@ -74,7 +76,7 @@ module _ (layout : Layout) (image : List ℕ) (past : History) (control : Contro
   pub no_breaks : (next : Control) → next.stack ≡ control.stack → BreaksStand layout (runs_at layout image next) turns (copies_at layout past new) next.stack
   no_breaks next e = subst (BreaksStand layout (runs_at layout image next) turns (copies_at layout past new)) (sym (e ∙ empty)) tt
 
-module _ (layout : Layout) (image : List ℕ) (past : History) (control : Control) (turns : List ProgramTurn) (old new : State) (lp : Lp) (b a : ℕ) (outcome : Outcome) (regs before : Regs)
+module _ (layout : Layout) (image : List ℕ) (past : History) (control : Control) (turns : List ProgramTurn) (old new : State) (lp : Lp) (b a : ℕ) (outcome : RtTurn) (regs before : Regs)
     (c : Case layout image past control turns old new lp (Leave b a) outcome regs) (all : ℕ) (r : Reads) (same : r.queue ≡ control.queue)
     (gives : IsAtStep layout before 32 × SameButRip before c.h.bytes.flat.regs) where
   fits : (length control.stack ≡ 0) × (control.phase ≡ Running)
@@ -129,7 +131,7 @@ module _ (layout : Layout) (image : List ℕ) (past : History) (control : Contro
         breaks = no_breaks layout image past control turns old new lp (Leave b a) outcome regs c all r same empty out refl;
       }) refl p.ends
 
-module _ (layout : Layout) (image : List ℕ) (past : History) (control : Control) (turns : List ProgramTurn) (old new : State) (lp : Lp) (outcome : Outcome) (regs : Regs)
+module _ (layout : Layout) (image : List ℕ) (past : History) (control : Control) (turns : List ProgramTurn) (old new : State) (lp : Lp) (outcome : RtTurn) (regs : Regs)
     (c : Case layout image past control turns old new lp Guard outcome regs) (all : ℕ) (r : Reads) (same : r.queue ≡ control.queue) (asked : ℕ) (is_asked : control.phase ≡ Asked asked) where
   dead_clash : control.phase ≡ Dead → ⊥
   dead_clash e = let clash : Asked asked ≡ Dead = sym is_asked ∙ e in cc

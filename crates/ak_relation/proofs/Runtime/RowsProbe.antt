@@ -16,16 +16,17 @@ use Rattle.ak_model.specs.Tapes.ProgramTurns.{ProgramTurn}
 use Rattle.ak_model.specs.Laws.Orderly.{ContextFits, ReasonFits, StackFits, is_live}
 use Rattle.ak_ssa.specs.SavedFrames.{NoCause}
 use Rattle.ak_ssa.specs.SavedRegisters.{AreRegs}
-use Rattle.ak_relation.specs.State.MachineState.{State, OfCopy}
-use Rattle.ak_relation.specs.Bytes.Contexts.{Gives}
+use Rattle.ak_relation.specs.State.MachineState.{State}
+use Rattle.ak_pager.specs.RuntimePages.{OfCopy, IsArea, AreasStand}
+use Rattle.ak_pager.specs.Contexts.{Gives}
 use Rattle.ak_model.specs.Laws.OwedAnswers.{owing_running}
 use Rattle.ak_relation.specs.Program.FlatPlaces.{IsAtBy}
-use Rattle.ak_relation.specs.Bytes.Pages.{IsArea, AreasStand}
 use Rattle.ak_relation.specs.Program.Reaching.{BreaksStand}
 use Rattle.ak_relation.specs.Program.Turns.{ends_by, is_last, is_last_call, has_ended}
 use Rattle.ak_relation.specs.Relation.Stands.{copies_at, runs_at}
-use Rattle.ak_relation.specs.Premises.Rows.{Row, StateStays, AreasStay, GoesProbing, Reads, kept_bytes, finish_row}
-use Rattle.ak_relation.specs.Premises.StepsTo.{Outcome, HasState, Performs}
+use Rattle.ak_pager.specs.Rows.{Row, StateStays, AreasStay, GoesProbing, Reads, kept_bytes, finish_row}
+use Rattle.ak_pager.specs.StepsTo.{HasState, Performs}
+use Rattle.ak_pager.specs.declared.turn.RtTurn.{RtTurn}
 use Rattle.ak_relation.specs.Relation.Does.{with_rest}
 use Rattle.ak_model.proofs.Tapes.Calls.{other_now}
 use Rattle.ak_relation.proofs.Runtime.RowPages.{new_copy, breaks_stay, pages_by}
@@ -37,7 +38,7 @@ use Rattle.ak_relation.proofs.Runtime.StepLaws.{Keeps}
 abbrev pub probing : ℕ → Row
 probing n = record { state = StateStays; areas = AreasStay; ends = GoesProbing n }
 
-module _ (layout : Layout) (image : List ℕ) (past : History) (control : Control) (turns : List ProgramTurn) (old new : State) (lp : Lp) (context : Context) (outcome : Outcome) (regs : Regs)
+module _ (layout : Layout) (image : List ℕ) (past : History) (control : Control) (turns : List ProgramTurn) (old new : State) (lp : Lp) (context : Context) (outcome : RtTurn) (regs : Regs)
     (c : Case layout image past control turns old new lp context outcome regs) (all : ℕ) where
   -- a step of this number comes next
   pub probes : (next : Context) (n : ℕ) → is_last_call (Some context) ≡ false → is_last_call (Some next) ≡ false → owing_running (Some context) ≡ owing_running None → owing_running (Some next) ≡ owing_running None →
@@ -83,7 +84,7 @@ guard_ends layout phase queue Denied h = absurd (let e : Guard ≡ Program = h i
 guard_ends layout phase queue Broke h = absurd (let e : Guard ≡ Program = h in cc)
 guard_ends layout phase queue (Missed n) h = absurd (let e : Guard ≡ Program = h.0 in cc)
 
-module _ (layout : Layout) (image : List ℕ) (past : History) (control : Control) (turns : List ProgramTurn) (old new : State) (lp : Lp) (outcome : Outcome) (regs : Regs)
+module _ (layout : Layout) (image : List ℕ) (past : History) (control : Control) (turns : List ProgramTurn) (old new : State) (lp : Lp) (outcome : RtTurn) (regs : Regs)
     (c : Case layout image past control turns old new lp Finish outcome regs) (all : ℕ) (r : Reads) (same : r.queue ≡ control.queue) (asked : ℕ) (is_asked : control.phase ≡ Asked asked)
     (saved : Saved) (one : control.stack ≡ saved ∷ []) (frame_is : r.kept.regs ≡ c.h.bytes.flat.regs) (words : AreRegs r.kept.regs) where
   -- the control state after it

@@ -19,10 +19,11 @@ use Rattle.ak_model.specs.Laws.Orderly.{ContextFits, FaultFits, SavedFits}
 use Rattle.ak_ssa.specs.SavedFrames.{area_place, HasFrame}
 use Rattle.ak_ssa.specs.FramesFit.{FrameFits}
 use Rattle.ak_relation.specs.State.MachineState.{State}
-use Rattle.ak_relation.specs.Bytes.Contexts.{Gives, reason_for, IsNoted, IsByPage}
+use Rattle.ak_pager.specs.Contexts.{Gives, reason_for, IsNoted, IsByPage}
 use Rattle.ak_model.specs.Laws.OwedAnswers.{owing}
-use Rattle.ak_relation.specs.Premises.Rows.{Row, Reads, area_bytes, second_cause, program_row, mode_row, saved_row}
-use Rattle.ak_relation.specs.Premises.StepsTo.{Outcome, Performs}
+use Rattle.ak_pager.specs.Rows.{Row, Reads, area_bytes, second_cause, program_row, mode_row, saved_row}
+use Rattle.ak_pager.specs.StepsTo.{Performs}
+use Rattle.ak_pager.specs.declared.turn.RtTurn.{RtTurn}
 use Rattle.ak_relation.specs.Premises.Works.{IsStep, named_by}
 use Rattle.ak_relation.specs.Relation.Does.{with_rest}
 use Rattle.ak_relation.proofs.Runtime.Allowed.{at_regs, step_mode}
@@ -66,12 +67,12 @@ nested_is layout phase Guard t h = own_is layout t (nat_lt t.page.0 (pages layou
 nested_is layout phase (Leave b a) t h = own_is layout t (nat_lt t.page.0 (pages layout)) refl h.0
 
 -- the program's mode
-program_mode : (layout : Layout) (image : List ℕ) (past : History) (control : Control) (turns : List ProgramTurn) (old new : State) (lp : Lp) (context : Context) (outcome : Outcome) (regs : Regs) →
+program_mode : (layout : Layout) (image : List ℕ) (past : History) (control : Control) (turns : List ProgramTurn) (old new : State) (lp : Lp) (context : Context) (outcome : RtTurn) (regs : Regs) →
     (c : Case layout image past control turns old new lp context outcome regs) → (saved : Regs) → saved ≡ c.h.bytes.flat.regs → saved.mode ≡ Mode.Program
 program_mode layout image past control turns old new lp context outcome regs c saved e =
     let fits = at_regs layout image control.returned control.count c.h.bytes.flat (owing control) c.h.bytes.program in ap (λ x. x.mode) e ∙ fits.1
 
-module _ (layout : Layout) (image : List ℕ) (past : History) (control : Control) (turns : List ProgramTurn) (old new : State) (lp : Lp) (v : ℕ) (outcome : Outcome) (regs : Regs)
+module _ (layout : Layout) (image : List ℕ) (past : History) (control : Control) (turns : List ProgramTurn) (old new : State) (lp : Lp) (v : ℕ) (outcome : RtTurn) (regs : Regs)
     (c : Case layout image past control turns old new lp (Enter 1 v) outcome regs) (all : ℕ) (r : Reads) (same : r.queue ≡ control.queue) (first : r.first ≡ c.before (ssa_page layout 0))
     (stored : HasFrame layout area_place (c.before (ssa_page layout 0)) r.saved) (fitting : FrameFits layout r.saved) where
   -- what the row comes to
@@ -133,7 +134,7 @@ module _ (layout : Layout) (image : List ℕ) (past : History) (control : Contro
   one_saved saved e fits noted gives effects p =
       one_by saved.context saved.reason e fits noted gives (λ later. effects later ∙ ap (handle layout (with_rest control later) 1) e) p
 
-module _ (layout : Layout) (image : List ℕ) (past : History) (control : Control) (turns : List ProgramTurn) (old new : State) (lp : Lp) (v : ℕ) (outcome : Outcome) (regs : Regs)
+module _ (layout : Layout) (image : List ℕ) (past : History) (control : Control) (turns : List ProgramTurn) (old new : State) (lp : Lp) (v : ℕ) (outcome : RtTurn) (regs : Regs)
     (c : Case layout image past control turns old new lp (Enter 2 v) outcome regs) (all : ℕ) (r : Reads) (same : r.queue ≡ control.queue) (below : Saved) where
   -- what the row comes to
   abbrev DoneTwo : Type 0

@@ -13,11 +13,13 @@ use Rattle.ak_model.specs.Control.RuntimeTurn.{shown_fault}
 use Rattle.ak_model.specs.Tapes.ProgramTurns.{ProgramTurn}
 use Rattle.ak_model.proofs.Control.OrderlySteps.{ClustersFit}
 use Rattle.ak_ssa.specs.FramesFit.{HasRoom}
-use Rattle.ak_relation.specs.State.MachineState.{State, copy, OfCopy}
+use Rattle.ak_relation.specs.State.MachineState.{State, copy}
+use Rattle.ak_pager.specs.RuntimePages.{OfCopy}
 use Rattle.ak_relation.specs.Bytes.Pages.{IsTcs}
 use Rattle.ak_relation.specs.Program.Reaching.{StaysBy, IsStaying}
 use Rattle.ak_relation.specs.Relation.Stands.{runs_at, Stands}
-use Rattle.ak_relation.specs.Premises.StepsTo.{Outcome, StepsTo}
+use Rattle.ak_pager.specs.StepsTo.{StepsTo}
+use Rattle.ak_pager.specs.declared.turn.RtTurn.{RtTurn}
 use Rattle.ak_relation.specs.Premises.Works.{IsLost, exit_of, CauseIs}
 use Rattle.ak_relation.specs.Premises.Shows.{MemorySees, ShowsStep}
 use Rattle.ak_relation.specs.Relation.Does.{TurnFollows, past_after, at_moment, GoesTo, IsTurn}
@@ -28,7 +30,7 @@ use Rattle.ak_relation.proofs.Runtime.RowTurns.{goes_there}
 use Rattle.ak_relation.proofs.Runtime.Cases.{Case}
 use Rattle.ak_relation.proofs.Runtime.StepCases.{steps}
 
-module _ (layout : Layout) (fit : ClustersFit layout) (walks : steps_walk layout.build ≡ true) (room : HasRoom layout) (lp : Lp) (old new : State) (outcome : Outcome) (s : ShowsStep layout lp.0 old new outcome) where
+module _ (layout : Layout) (fit : ClustersFit layout) (walks : steps_walk layout.build ≡ true) (room : HasRoom layout) (lp : Lp) (old new : State) (outcome : RtTurn) (s : ShowsStep layout lp.0 old new outcome) where
   module _ (image : List ℕ) (past : History) (control : Control) (turns : List ProgramTurn) (within : inside past lp.0 ≡ true) (h : Stands layout image (at_moment past control turns old)) (all : ℕ) where
     -- what the turn comes to
     abbrev pub Done : Type 0

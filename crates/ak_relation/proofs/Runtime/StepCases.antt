@@ -14,9 +14,10 @@ use Rattle.ak_model.specs.Control.RuntimeTurn.{asked_pages, enter, resume_guard}
 use Rattle.ak_model.specs.Tapes.ProgramTurns.{ProgramTurn}
 use Rattle.ak_model.specs.Laws.StepRows.{opens, guards}
 use Rattle.ak_relation.specs.State.MachineState.{State}
-use Rattle.ak_relation.specs.Bytes.Contexts.{Gives}
-use Rattle.ak_relation.specs.Premises.Rows.{Reads, guard_frame, entry_row, finish_row, guard_row, leave_row}
-use Rattle.ak_relation.specs.Premises.StepsTo.{Outcome, Performs, reads_of, WorksBy}
+use Rattle.ak_pager.specs.Contexts.{Gives}
+use Rattle.ak_pager.specs.Rows.{Reads, guard_frame, entry_row, finish_row, guard_row, leave_row}
+use Rattle.ak_pager.specs.StepsTo.{Performs, reads_of, WorksBy}
+use Rattle.ak_pager.specs.declared.turn.RtTurn.{RtTurn}
 use Rattle.ak_relation.specs.Relation.Does.{with_rest}
 use Rattle.ak_relation.proofs.Runtime.Cases.{Case, Comes, context_fits, exits}
 use Rattle.ak_relation.proofs.Runtime.RowsBegin.{starts, answers}
@@ -24,7 +25,7 @@ use Rattle.ak_relation.proofs.Runtime.RowsLeave.{ends_program, calls_out, resume
 use Rattle.ak_relation.proofs.Runtime.RowsProbe.{probing, probes, finishes}
 use Rattle.ak_relation.proofs.Runtime.EntryCases.{HasRegs, kept_read, only, At, Works, Goal, handled, shown_entry}
 
-module _ (layout : Layout) (image : List ℕ) (past : History) (control : Control) (turns : List ProgramTurn) (old new : State) (lp : Lp) (outcome : Outcome) (regs before : Regs) (all : ℕ) where
+module _ (layout : Layout) (image : List ℕ) (past : History) (control : Control) (turns : List ProgramTurn) (old new : State) (lp : Lp) (outcome : RtTurn) (regs before : Regs) (all : ℕ) where
   -- an entry in this context
   abbrev AtEntry : ℕ → ℕ → Type 0
   AtEntry k v = At layout image past control turns old new lp v outcome regs before all (Enter k v)

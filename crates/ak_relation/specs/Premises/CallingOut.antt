@@ -5,7 +5,7 @@ use Rattle.ak_core.specs.Mem.{Access}
 use Rattle.ak_model.specs.Flat.FlatRuns.{Flat, End, line, ending}
 use Rattle.ak_model.specs.Misses.KeptTranslations.{is_among}
 use Rattle.ak_relation.specs.State.MachineState.{State}
-use Rattle.ak_relation.specs.Bytes.Contexts.{IsAtStep, SameButRip}
+use Rattle.ak_pager.specs.Contexts.{IsAtStep, SameButRip}
 use Rattle.ak_relation.specs.Program.Reaching.{is_filled}
 use Rattle.ak_tlb.specs.Fills.{Fill}
 use Rattle.ak_relation.specs.Premises.Faulting.{AreWalked}

@@ -4,7 +4,7 @@ use Rattle.ak_core.specs.Layout.{Layout}
 use Rattle.ak_model.specs.Paging.Pages.{tcs_page, ssa_page}
 use Rattle.ak_track.specs.Steps.{EntersBy}
 use Rattle.ak_relation.specs.State.MachineState.{State}
-use Rattle.ak_relation.specs.Bytes.Contexts.{entry_regs}
+use Rattle.ak_pager.specs.Contexts.{entry_regs}
 use Rattle.ak_relation.specs.Bytes.Pages.{IsTcs}
 
 -- the processor is inside, at the entry of the runtime, and holds the frames that the page table names; its TCS refuses nothing any

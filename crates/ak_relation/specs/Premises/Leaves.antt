@@ -5,7 +5,7 @@ use Rattle.ak_core.specs.Layout.{Layout}
 use Rattle.ak_model.specs.Paging.Histories.{History, Pair, change_of}
 use Rattle.ak_model.specs.Paging.Inside.{since}
 use Rattle.ak_relation.specs.State.MachineState.{State}
-use Rattle.ak_relation.specs.Bytes.Pages.{Copies}
+use Rattle.ak_pager.specs.RuntimePages.{Copies}
 use Rattle.ak_relation.specs.State.Tables.{TablesStand}
 use Rattle.ak_model.specs.Laws.OpenFrames.{KeepsOpen}
 use Rattle.ak_relation.specs.Relation.Stands.{copies_at}

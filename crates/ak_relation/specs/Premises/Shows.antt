@@ -13,7 +13,8 @@ use Rattle.ak_relation.specs.Bytes.Pages.{IsTcs}
 use Rattle.ak_ssa.specs.SavedFrames.{ByPage}
 use Rattle.ak_relation.specs.State.Tables.{TablesStand}
 use Rattle.ak_relation.specs.Premises.Saving.{Saves}
-use Rattle.ak_relation.specs.Premises.StepsTo.{Outcome, memory_of, MayStep, StepsTo}
+use Rattle.ak_pager.specs.StepsTo.{memory_of, MayStep, StepsTo}
+use Rattle.ak_pager.specs.declared.turn.RtTurn.{RtTurn}
 use Rattle.ak_relation.specs.Premises.Works.{IsMemory, AreFound, IsLost, Writes, KeepsTables, Ends}
 
 -- what the memory sees, by the machine's tables
@@ -23,14 +24,14 @@ pub record MemorySees (layout : Layout) (past : History) (holds : ℕ → Bool) 
   pub lost : IsLost layout past refused
 
 -- what a step with no refused access leaves in the machine
-pub record StepLeaves (layout : Layout) (past : History) (lp : ℕ) (holds : ℕ → Bool) (before after : ℕ → List ℕ) (outcome : Outcome) (regs : Regs) (old new : State) : Type 0 where
+pub record StepLeaves (layout : Layout) (past : History) (lp : ℕ) (holds : ℕ → Bool) (before after : ℕ → List ℕ) (outcome : RtTurn) (regs : Regs) (old new : State) : Type 0 where
   pub writes : Writes layout past holds before after old new
   pub kept : KeepsTables layout past old new
   pub ends : Ends lp outcome regs old new
 
 -- the registers are in the runtime's mode; for each control state for which a step is defined, its contract holds of registers, bytes and
 -- accesses before and after; and the machine does as the outcome says. A refused access saves the context
-pub record ShowsStep (layout : Layout) (lp : ℕ) (old new : State) (outcome : Outcome) : Type 0 where
+pub record ShowsStep (layout : Layout) (lp : ℕ) (old new : State) (outcome : RtTurn) : Type 0 where
   pub mode : (old.processors lp).regs.mode ≡ Mode.Runtime
   pub holds : ℕ → Bool
   pub before : ℕ → List ℕ

@@ -16,7 +16,7 @@ use Rattle.ak_relation.specs.State.MachineState.{State}
 use Rattle.ak_model.specs.Control.RuntimeTurn.{shown_fault, stuck_cause}
 use Rattle.ak_core.specs.declared.moves.Exit.{Exit}
 use Rattle.ak_relation.specs.Relation.Stands.{copies_at}
-use Rattle.ak_relation.specs.Premises.StepsTo.{Outcome, Went, Left, Died, Refused}
+use Rattle.ak_pager.specs.declared.turn.RtTurn.{RtTurn}
 use Rattle.ak_model.specs.Paging.Inside.{inside}
 use Rattle.ak_model.specs.Tapes.ProgramTurns.{ProgramTurn}
 use Rattle.ak_relation.specs.Relation.Stands.{Stands}
@@ -92,18 +92,18 @@ pub record Quits (lp : ℕ) (old new : State) : Type 0 where
 -- ---- Its end
 
 -- the exit that the outcome of a step shows
-abbrev pub exit_of : Layout → Outcome → Option Exit
-exit_of layout Went = None
-exit_of layout (Left exit) = Some exit
-exit_of layout (Died cause) = Some Exit.Stopped
-exit_of layout (Refused t) = Some (shown_fault layout)
+abbrev pub exit_of : Layout → RtTurn → Option Exit
+exit_of layout RtTurn.Go = None
+exit_of layout (RtTurn.Leave exit) = Some exit
+exit_of layout (RtTurn.Dead cause) = Some Exit.Stopped
+exit_of layout (RtTurn.Faulted t) = Some (shown_fault layout)
 
 -- what the processor does by the outcome: it goes on, or leaves; a refused step is saved, which is said elsewhere
-abbrev pub Ends : ℕ → Outcome → Regs → State → State → Type 0
-Ends lp Went regs old new = GoesOn lp regs old new
-Ends lp (Left exit) regs old new = Quits lp old new
-Ends lp (Died cause) regs old new = Quits lp old new
-Ends lp (Refused t) regs old new = ⊥
+abbrev pub Ends : ℕ → RtTurn → Regs → State → State → Type 0
+Ends lp RtTurn.Go regs old new = GoesOn lp regs old new
+Ends lp (RtTurn.Leave exit) regs old new = Quits lp old new
+Ends lp (RtTurn.Dead cause) regs old new = Quits lp old new
+Ends lp (RtTurn.Faulted t) regs old new = ⊥
 
 -- ---- Causes
 
@@ -113,14 +113,14 @@ named_by (Unmapped p k) = ByBreak
 named_by cause = Named cause
 
 -- the cause after a step: the first stays; the enclave dies of one, or is stuck at the third fault
-abbrev pub CauseIs : Control → Outcome → Option Cause → Type 0
-CauseIs control Went after = after ≡ control.cause
-CauseIs control (Left exit) after = after ≡ control.cause
-CauseIs control (Died cause) after = after ≡ first_cause control.cause (named_by cause)
-CauseIs control (Refused t) after = after ≡ stuck_cause control t
+abbrev pub CauseIs : Control → RtTurn → Option Cause → Type 0
+CauseIs control RtTurn.Go after = after ≡ control.cause
+CauseIs control (RtTurn.Leave exit) after = after ≡ control.cause
+CauseIs control (RtTurn.Dead cause) after = after ≡ first_cause control.cause (named_by cause)
+CauseIs control (RtTurn.Faulted t) after = after ≡ stuck_cause control t
 
 -- a step is a turn, after which the cause is the one that its outcome names
-abbrev pub NamesCause : Layout → ℕ → State → State → Outcome → Type 0
+abbrev pub NamesCause : Layout → ℕ → State → State → RtTurn → Type 0
 NamesCause layout lp old new outcome =
     (image : List ℕ) (past : History) (control : Control) (turns : List ProgramTurn) → inside past lp ≡ true →
     Stands layout image (at_moment past control turns old) → (all : ℕ) →

@@ -18,8 +18,8 @@ use Rattle.ak_model.specs.Sound.Forced.{queue_by}
 use Rattle.ak_model.specs.Misses.KeptTranslations.{granted_since, is_among, same_access, MayFaultUnkept}
 use Rattle.ak_ssa.specs.SavedFrames.{SavedFrame, ByPage, area_place, HasFrame}
 use Rattle.ak_tlb.specs.Fills.{Fill}
-use Rattle.ak_relation.specs.State.MachineState.{Processor, OfCopy}
-use Rattle.ak_relation.specs.Bytes.Pages.{Copies}
+use Rattle.ak_relation.specs.State.MachineState.{Processor}
+use Rattle.ak_pager.specs.RuntimePages.{OfCopy, Copies}
 use Rattle.ak_model.specs.Laws.OpenFrames.{HoldsSince}
 
 -- ---- Cached translations

@@ -9,10 +9,11 @@ use Rattle.ak_model.specs.Tapes.LastMoment.{FlatRuns}
 use Rattle.ak_model.specs.Tapes.ProgramTurns.{ProgramTurn}
 use Rattle.ak_model.specs.Sound.Forced.{queue_by}
 use Rattle.ak_relation.specs.State.MachineState.{Processor, State, copy}
-use Rattle.ak_relation.specs.Bytes.Contexts.{GivesNow}
+use Rattle.ak_pager.specs.Contexts.{GivesNow}
 use Rattle.ak_relation.specs.Program.FlatPlaces.{IsAt}
 use Rattle.ak_relation.specs.Program.Inputs.{InputsStand}
-use Rattle.ak_relation.specs.Bytes.Pages.{Copies, CopiesStand}
+use Rattle.ak_relation.specs.Bytes.Pages.{CopiesStand}
+use Rattle.ak_pager.specs.RuntimePages.{Copies}
 use Rattle.ak_relation.specs.State.Tables.{TablesStand}
 use Rattle.ak_relation.specs.Program.Turns.{events_by, TapeStands, TurnsStand, LawsStand}
 use Rattle.ak_relation.specs.Program.Reaching.{ReachedStands}

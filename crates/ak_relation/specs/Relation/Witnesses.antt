@@ -9,7 +9,7 @@ use Rattle.ak_model.specs.Control.ControlState.{Asked, Broke, Saved, Control}
 use Rattle.ak_model.specs.Flat.Instructions.{reg_of, rax}
 use Rattle.ak_model.specs.Flat.FlatRuns.{Flat}
 use Rattle.ak_model.specs.Tapes.ProgramTurns.{ProgramTurn}
-use Rattle.ak_relation.specs.Bytes.Pages.{KeepsProgram}
+use Rattle.ak_pager.specs.RuntimePages.{KeepsProgram}
 use Rattle.ak_relation.specs.Program.FlatPlaces.{IsAt, Reaches}
 use Rattle.ak_relation.specs.Program.Reaching.{NamesBreak}
 use Rattle.ak_relation.specs.Program.Turns.{events_by}

@@ -33,8 +33,3 @@ abbrev pub copy : State → Place → Option (List ℕ)
 copy state (InFrame f) = Some (state.frames f)
 copy state (InHandle k) = option_map (λ sealed_page. sealed_page.bytes) (state.sealed_pages k)
 copy state Gone = None
-
--- this holds of the bytes, where there are any
-abbrev pub OfCopy : Option (List ℕ) → (List ℕ → Type 0) → Type 0
-OfCopy None holds = Unit {0}
-OfCopy (Some bytes) holds = holds bytes

@@ -9,7 +9,8 @@ ghost use Rattle.ak_model.specs.Paging.Holdings.{VaFrame};
 ghost use Rattle.ak_model.specs.Paging.Inside.{inside};
 ghost use Rattle.ak_model.specs.Tapes.ProgramTurns.{ProgramTurn};
 ghost use Rattle.ak_relation.specs.Premises.Shows.{ShowsStep};
-ghost use Rattle.ak_relation.specs.Premises.StepsTo.{MayStep, Outcome, memory_of};
+ghost use Rattle.ak_pager.specs.StepsTo.{MayStep, memory_of};
+ghost use Rattle.ak_pager.specs.declared.turn.RtTurn.{RtTurn};
 ghost use Rattle.ak_relation.specs.Premises.Works.{IsMemory, IsStep, NamesCause, Writes, WritesFrames, exit_of};
 ghost use Rattle.ak_relation.specs.Relation.Does.{IsTurn, at_moment};
 ghost use Rattle.ak_relation.specs.Relation.Stands.{Stands};
@@ -30,9 +31,9 @@ pub fn steps_are_defined()
 /// A turn in the runtime's mode is a turn of the definitions, in each valid layout whose runtime's steps walk: with its row, or with
 /// the fault of a refused access; and the cause of death after it is the one that its outcome names.
 pub fn valid_turns()
-    ensures turn { (layout : Layout.Layout) (lp : Lp) (old new : State) (outcome : Outcome) → IsValid layout → steps_walk layout.build ≡ true
+    ensures turn { (layout : Layout.Layout) (lp : Lp) (old new : State) (outcome : RtTurn) → IsValid layout → steps_walk layout.build ≡ true
         → ShowsStep layout lp.0 old new outcome → IsTurn layout lp.0 old new (exit_of layout outcome) None }
-    ensures cause { (layout : Layout.Layout) (lp : Lp) (old new : State) (outcome : Outcome) → IsValid layout → steps_walk layout.build ≡ true
+    ensures cause { (layout : Layout.Layout) (lp : Lp) (old new : State) (outcome : RtTurn) → IsValid layout → steps_walk layout.build ≡ true
         → ShowsStep layout lp.0 old new outcome → NamesCause layout lp.0 old new outcome }
 {}
 

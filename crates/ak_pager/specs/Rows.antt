@@ -14,7 +14,7 @@ use Rattle.ak_model.specs.Flat.Instructions.{reg_of, with_reg, rax, rcx, rdi, rs
 use Rattle.ak_model.specs.Flat.FlatRuns.{zeroed}
 use Rattle.ak_model.specs.Control.ControlState.{Phase, New, Running, Calling, Asked, Ended, Trapped, Dead, Context, Program, Enter, Probe, Finish, Guard, Leave, Reason, Denied, Missed, Broke}
 use Rattle.ak_ssa.specs.SavedFrames.{SavedCause, NoCause, ByVector, ByPage, SavedFrame, frame_bytes, area_place, state_place, guard_regs}
-use Rattle.ak_relation.specs.Bytes.Contexts.{reason_for}
+use Rattle.ak_pager.specs.Contexts.{reason_for}
 
 -- ---- What a row says
 

@@ -3,8 +3,6 @@ use Rattle.std.specs.Prelude.{◌≡◌, ◌≢◌, ℕ, suc, ◌+◌, ◌*◌, 
 use Rattle.std.specs.Bool.{then_some}
 use Rattle.ak_core.specs.Layout.{Layout}
 use Rattle.ak_core.specs.Mem.{Access}
-use Rattle.ak_core.specs.declared.moves.Exit.{Exit}
-use Rattle.ak_core.specs.declared.event.StopCause.{StopCause}
 use Rattle.ak_core.specs.declared.registers.Mode.{Mode}
 use Rattle.ak_core.specs.declared.registers.Regs.{Regs}
 use Rattle.ak_model.specs.Paging.Pages.{ssa_page, state_page}
@@ -15,13 +13,13 @@ use Rattle.ak_model.specs.Control.ControlState.{Phase, Calling, Asked, Context, 
 use Rattle.ak_model.specs.Control.RuntimeTurn.{accesses}
 use Rattle.ak_model.specs.Laws.StepRows.{HasRow}
 use Rattle.ak_model.specs.Laws.Orderly.{IsDistinct}
-use Rattle.ak_relation.specs.Bytes.Contexts.{IsAtStep, Gives}
+use Rattle.ak_pager.specs.declared.turn.RtTurn.{RtTurn}
+use Rattle.ak_pager.specs.Contexts.{IsAtStep, Gives}
 use Rattle.ak_ssa.specs.SavedFrames.{SavedFrame, area_place, state_place, HasFrame}
 use Rattle.ak_ssa.specs.SavedRegisters.{AreRegs}
 use Rattle.ak_ssa.specs.FramesFit.{FrameFits}
-use Rattle.ak_relation.specs.State.MachineState.{OfCopy}
-use Rattle.ak_relation.specs.Bytes.Pages.{Copies, phase_number, SaysMore, AreasStand, IsState}
-use Rattle.ak_relation.specs.Premises.Rows.{StateChange, StateStays, StateSets, AreaChange, AreasStay, AreasGuard, AreaGets, StepEnd, GoesWith, GoesProbing, LeavesWith, DiesOf, Row, Reads, kept_bytes, guard_frame, row_of}
+use Rattle.ak_pager.specs.RuntimePages.{OfCopy, Copies, phase_number, SaysMore, AreasStand, IsState}
+use Rattle.ak_pager.specs.Rows.{StateChange, StateStays, StateSets, AreaChange, AreasStay, AreasGuard, AreaGets, StepEnd, GoesWith, GoesProbing, LeavesWith, DiesOf, Row, Reads, kept_bytes, guard_frame, row_of}
 
 -- ---- Before the step
 
@@ -68,19 +66,12 @@ pub record MayStep (layout : Layout) (control : Control) (context : Context) (fl
 
 -- ---- After the step
 
--- what a call of the step comes to
-pub data Outcome : Type 0 where
-  Went : Outcome
-  Left : (exit : Exit) → Outcome
-  Died : (cause : StopCause) → Outcome
-  Refused : (access : Access) → Outcome
-
 -- the step's end shows in outcome and registers; which registers stay where the processor leaves is left open
-abbrev pub EndsAs : Layout → StepEnd → Outcome → Regs → Type 0
-EndsAs layout (GoesWith after) outcome regs = (outcome ≡ Went) × (regs ≡ after)
-EndsAs layout (GoesProbing i) outcome regs = (outcome ≡ Went) × IsAtStep layout regs 48 × (reg_of regs rcx ≡ i)
-EndsAs layout (LeavesWith exit) outcome regs = outcome ≡ Left exit
-EndsAs layout (DiesOf cause) outcome regs = outcome ≡ Died cause
+abbrev pub EndsAs : Layout → StepEnd → RtTurn → Regs → Type 0
+EndsAs layout (GoesWith after) outcome regs = (outcome ≡ RtTurn.Go) × (regs ≡ after)
+EndsAs layout (GoesProbing i) outcome regs = (outcome ≡ RtTurn.Go) × IsAtStep layout regs 48 × (reg_of regs rcx ≡ i)
+EndsAs layout (LeavesWith exit) outcome regs = outcome ≡ RtTurn.Leave exit
+EndsAs layout (DiesOf cause) outcome regs = outcome ≡ RtTurn.Dead cause
 
 -- bytes of STATE with this phase, queue and frame
 pub record HasState (phase : Phase) (queue : List ℕ) (frame bytes : List ℕ) : Type 0 where
@@ -106,7 +97,7 @@ AreasAre layout (AreaGets frame) old new =
     × ((i : ℕ) → i < 3 → (i < 1 → ⊥) → new (ssa_page layout i) ≡ old (ssa_page layout i))
 
 -- the row shows in the memory's bytes, in outcome and registers
-pub record Performs (layout : Layout) (row : Row) (old new : ℕ → List ℕ) (outcome : Outcome) (regs : Regs) : Type 0 where
+pub record Performs (layout : Layout) (row : Row) (old new : ℕ → List ℕ) (outcome : RtTurn) (regs : Regs) : Type 0 where
   pub ends : EndsAs layout row.ends outcome regs
   pub state : StateIs row.state (old (state_page layout)) (new (state_page layout))
   pub areas : AreasAre layout row.areas old new
@@ -129,13 +120,13 @@ reads_of layout phase queue bytes kept saved =
     record { phase = phase; queue = queue; state = bytes (state_page layout); first = bytes (ssa_page layout 0); kept = kept; saved = saved }
 
 -- the step where no access is refused: its row, whichever frames the bytes have
-abbrev pub WorksBy : Layout → Control → Context → Regs → (ℕ → List ℕ) → (ℕ → List ℕ) → Outcome → Regs → Type 0
+abbrev pub WorksBy : Layout → Control → Context → Regs → (ℕ → List ℕ) → (ℕ → List ℕ) → RtTurn → Regs → Type 0
 WorksBy layout control context before old new outcome after =
     (kept saved : SavedFrame) → ReadsKept layout control.phase (old (state_page layout)) kept → ReadsSaved layout old context saved →
     Performs layout (row_of layout (reads_of layout control.phase control.queue old kept saved) before context) old new outcome after
 
 -- one step: the accesses in order; the first refused one faults and changes nothing; else its row
-pub record StepsTo (layout : Layout) (control : Control) (context : Context) (before : Regs) (old new : ℕ → List ℕ) (granted : List Access) (refused : Option Access) (outcome : Outcome) (after : Regs) : Type 0 where
+pub record StepsTo (layout : Layout) (control : Control) (context : Context) (before : Regs) (old new : ℕ → List ℕ) (granted : List Access) (refused : Option Access) (outcome : RtTurn) (after : Regs) : Type 0 where
   pub works : refused ≡ None → (granted ≡ accesses layout control context) × WorksBy layout control context before old new outcome after
   pub faults : (t : Access) → refused ≡ Some t →
-      ((later : List Access) × (granted ++ t ∷ later ≡ accesses layout control context)) × (new ≡ old) × (after ≡ before) × (outcome ≡ Refused t)
+      ((later : List Access) × (granted ++ t ∷ later ≡ accesses layout control context)) × (new ≡ old) × (after ≡ before) × (outcome ≡ RtTurn.Faulted t)
