@@ -4,3 +4,4 @@ pub mod Document
 pub mod Signers
 pub mod Stages
 pub mod Collected
+pub mod Secinfo

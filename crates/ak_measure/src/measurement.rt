@@ -3,7 +3,9 @@ ghost use Rattle.std.specs.Prelude.{◌≡◌, ◌++◌, ◌+◌, ◌^◌, ◌�
 ghost use Rattle.sha2.specs.Sha256.{sha256};
 ghost use Rattle.ak_measure.specs.Blocks.{create_block, add_block, extend_block, page_blocks};
 ghost use Rattle.ak_measure.specs.Absorbed.{HasAbsorbed};
+ghost use Rattle.ak_measure.specs.Secinfo.{secinfo as flags_of};
 
+use ak_core::{PageType, Perm};
 use byteorder::{ByteOrder, LittleEndian};
 use sha2::{Digest, Sha256};
 
@@ -56,6 +58,16 @@ impl Measure {
         }
     }
 
+    /// The digest of all blocks that were absorbed so far.
+    pub fn digest(&self) -> [u8; 32]
+        ensures { (bytes : List ℕ) → HasAbsorbed self.now bytes → result ≡ sha256 bytes }
+    {
+        match self.hasher.clone() {
+            Ok(hasher) => hasher.finalize(),
+            Err(_) => unreachable!(),
+        }
+    }
+
     /// The digest of all blocks that were absorbed.
     pub fn finish(self) -> [u8; 32]
         ensures { (bytes : List ℕ) → HasAbsorbed self bytes → result ≡ sha256 bytes }
@@ -94,4 +106,17 @@ fn extended(offset: u64) -> [u8; 64]
     block[..8].copy_from_slice(b"EEXTEND\0");
     LittleEndian::write_u64(&mut block[8..], offset);
     block
+}
+
+/// The flags of a page's SECINFO: its type, and of a regular page its permission. A page that is neither regular nor a TCS has none.
+pub fn secinfo(kind: PageType, perm: Perm) -> u64
+    ensures { result ≡ flags_of kind perm }
+{
+    match (kind, perm) {
+        (PageType::Reg, Perm::R) => 0x201,
+        (PageType::Reg, Perm::Rw) => 0x203,
+        (PageType::Reg, Perm::Rx) => 0x205,
+        (PageType::Tcs, _) => 0x100,
+        (PageType::Secs | PageType::Va, _) => 0,
+    }
 }

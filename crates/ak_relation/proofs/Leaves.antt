@@ -14,3 +14,4 @@ pub mod BlockedLoads
 pub mod RemoveMoves
 pub mod MakeMoves
 pub mod DiscardMoves
+pub mod LeafDoes

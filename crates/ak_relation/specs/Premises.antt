@@ -4,6 +4,7 @@ pub mod Leaves
 pub mod WriteOut
 pub mod Loading
 pub mod Making
+pub mod LeafDoes
 pub mod Entering
 pub mod Resuming
 pub mod EnterRows

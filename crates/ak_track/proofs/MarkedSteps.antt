@@ -1,6 +1,6 @@
 -- What marks stand for, step by step.
-use Rattle.std.proofs.Common.{◌≡◌, ℕ, ◌+◌, ◌-◌, ◌≤◌, Bool, true, false, ◌==◌, if◌then◌else◌, List, [], ◌∷◌, length, map, refl, ap, sym, ◌∙◌, arith}
-use Rattle.std.specs.Prelude.{not, ◌&&◌, filter, nat_lt, Some}
+use Rattle.std.proofs.Common.{◌≡◌, ℕ, zero, suc, ◌+◌, ◌-◌, ◌<◌, ◌≤◌, Bool, true, false, ◌==◌, if◌then◌else◌, List, [], ◌∷◌, length, map, refl, ap, sym, ◌∙◌, arith}
+use Rattle.std.specs.Prelude.{not, ◌&&◌, ◌||◌, filter, nat_lt, Some}
 use Rattle.std.specs.List.{range_with_len, list_any, list_all}
 use Rattle.std.proofs.lemmas.Bool.{both_ways, and_from, and_parts, not-false, lt-ltb, le-ltb}
 use Rattle.std.proofs.lemmas.List.{length-map}
@@ -127,3 +127,18 @@ tracked-steps track stamp lps place over steps h at is =
     ap (nat_lt stamp.cycles) (is ∙ ap (λ n. if any_mark track.waiting then n - 1 else n) (sym h.count))
     ∙ ap (λ n. nat_lt n (if any_mark track.waiting then length (cycles_by lps steps) - 1 else length (cycles_by lps steps))) (sym at.count)
     ∙ sym (tracked_cycles lps place (length steps + 1) track.waiting (cycles_by lps steps) (any_mark track.waiting) refl h.waiting h.none_beyond (below_by lps steps))
+
+-- ---- Who is inside
+
+any_same : (p q : ℕ → Bool) (a n : ℕ) → ((x : ℕ) → a ≤ x → x < a + n → p x ≡ q x) → list_any p (range_with_len a n) ≡ list_any q (range_with_len a n)
+any_same p q a zero h = refl
+any_same p q a (suc n) h =
+    ap (λ b. b || list_any p (range_with_len (a + 1) n)) (h a (omega arith) (omega arith))
+    ∙ ap (λ b. q a || b) (any_same p q (a + 1) n (λ x low high. h x (omega arith) (omega arith)))
+
+-- some processor is marked as inside just where the steps have one of these inside
+pub marked_inside : (track : Marks) (lps : ℕ) (steps : List TrackStep) → HoldsSteps track lps steps →
+    any_mark track.inside ≡ list_any (inside_by steps) (range_with_len 0 lps)
+marked_inside track lps steps holds =
+    sym (any_marked track.inside lps (λ lp far. holds.inside lp ∙ ap (λ b. b && inside_by steps lp) (le-ltb lp lps far)))
+    ∙ any_same (is_marked track.inside) (inside_by steps) 0 lps (λ lp low high. let lt : lp < lps = omega arith in holds.inside lp ∙ ap (λ b. b && inside_by steps lp) (lt-ltb lp lps lt))

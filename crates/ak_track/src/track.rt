@@ -1,7 +1,7 @@
 // Who is inside, and for whom the newest cycle waits.
 ghost use Rattle.std.specs.Prelude.{◌≡◌, ◌+◌, ◌^◌, ◌<◌, ◌≤◌, ℕ, List, [], ◌∷◌, Some, OnOk, OnErr, is_err, length};
-ghost use Rattle.std.specs.List.{list_any};
-ghost use Rattle.ak_track.specs.Steps.{TrackStep, EntersBy, LeavesBy, Cycled, cycles_by, tracked_by, incomplete_by};
+ghost use Rattle.std.specs.List.{list_any, range_with_len};
+ghost use Rattle.ak_track.specs.Steps.{TrackStep, EntersBy, LeavesBy, Cycled, inside_by, cycles_by, tracked_by, incomplete_by};
 ghost use Rattle.ak_track.specs.Tracking.{HoldsSteps, StampOf};
 
 use ak_core::Lp;
@@ -113,6 +113,21 @@ impl Track {
             self.cycles
         };
         stamp.cycles < over
+    }
+
+    /// Some processor is inside.
+    pub fn is_active(&self) -> bool
+        ensures { (lps : ℕ) (steps : List TrackStep) → HoldsSteps self.now lps steps
+            → result ≡ list_any (inside_by steps) (range_with_len 0 lps) }
+    {
+        self.has_marked_inside()
+    }
+
+    // Some processor is marked as inside.
+    fn has_marked_inside(&self) -> bool
+        ensures { result ≡ list_any (λ inside. inside) self.now.inside }
+    {
+        self.inside.iter().any(|inside| *inside)
     }
 
     // The newest cycle waits for a processor.

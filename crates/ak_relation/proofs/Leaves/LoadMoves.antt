@@ -61,7 +61,7 @@ module _ (layout : Layout) (old new : State) (f va : Frame) (k : Handle) (p : Pa
         steps_are = w.track ∙ h.tracking.steps_are;
         stamped = λ g t e. loaded_stamp layout past old new f.0 k.0 p.0 va.0 i false h w fair g t e;
       };
-      frames = record { whole = w.whole };
+      frames = record { whole = λ g. w.lengths g ∙ h.frames.whole g };
       one_copy = loaded_one layout past old new f.0 k.0 p.0 va.0 i false h w fair;
     };
   }

@@ -82,7 +82,7 @@ module _ (layout : Layout) (past : History) (old new : State) (f : Frame) (h : T
       mapping = subst (λ table. MappingStands layout table (pte layout past)) (sym m.table) h.mapping;
       presence = subst (λ all. PresenceStands all (since past)) (sym m.processors) h.presence;
       tracking = record { built = h.tracking.built; steps_are = m.track ∙ h.tracking.steps_are; stamped = λ g t e. stamps g t (g == f.0) e };
-      frames = record { whole = m.whole };
+      frames = record { whole = λ g. m.lengths g ∙ h.frames.whole g };
       one_copy = makes_va _ _ _ _ _ _ h.one_copy f.0 free;
     };
   }

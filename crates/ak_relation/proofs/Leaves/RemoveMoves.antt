@@ -17,14 +17,15 @@ use Rattle.ak_model.specs.Control.LeafRows.{leaf_row}
 use Rattle.ak_relation.specs.State.TrackSteps.{stamp_of}
 use Rattle.ak_relation.specs.State.MachineState.{State, copy}
 use Rattle.ak_relation.specs.State.Tables.{TablesStand}
+use Rattle.ak_relation.specs.State.TableChanges.{FreesEntry}
 use Rattle.ak_relation.specs.State.MachineView.{view_in}
 use Rattle.ak_relation.specs.Premises.Leaves.{LeafChanges}
 use Rattle.ak_relation.specs.Relation.Does.{IsMove}
 use Rattle.ak_relation.proofs.Leaves.LeafMoves.{leaf_moves}
-use Rattle.ak_relation.proofs.Leaves.WriteOut.{freed_entry, still_va}
+use Rattle.ak_relation.proofs.Leaves.WriteOut.{freed_or, freed_entry, still_va}
 
 module _ (layout : Layout) (past : History) (s : State) (f : Frame) (entries : List Entry) (h : TablesStand layout past s)
-    (sets : (g : ℕ) → entry_at entries g ≡ (if g == f.0 then record (entry_at s.entries g) { valid = false } else entry_at s.entries g)) where
+    (sets : FreesEntry s.entries entries f.0) where
   copies : (frame : Held) → held layout past f.0 ≡ frame → Agrees (λ g. if g == f.0 then FreeFrame else held layout past g) (λ p. if is_page_in frame p then Gone else place layout past p)
       (slot layout past) (given layout past) (page_of layout past) (discarded past)
   copies FreeFrame e = frees _ _ _ _ _ _ h.one_copy f.0 (λ q x. cc)
@@ -48,7 +49,7 @@ module _ (layout : Layout) (past : History) (s : State) (f : Frame) (entries : L
     queue = refl;
     copies = λ p. fewer (is_page_in (held layout past f.0) p) (place layout past p);
     tables = record {
-      entries = record { entry = λ g. freed_entry layout (g == f.0) (entry_at s.entries g) (entry_at entries g) (held layout past g) (blocked_at past g) (sets g) (h.entries.entry g) };
+      entries = record { entry = λ g. freed_entry layout (g == f.0) (entry_at s.entries g) (entry_at entries g) (held layout past g) (blocked_at past g) (freed_or s.entries entries f.0 sets g (g == f.0) refl) (h.entries.entry g) };
       slots = record { versions = λ va i v lt. h.slots.versions va i (still_va (va == f.0) (held layout past va) v).1 lt };
       sealed_pages = h.sealed_pages;
       mapping = h.mapping;
@@ -61,7 +62,7 @@ module _ (layout : Layout) (past : History) (s : State) (f : Frame) (entries : L
 
 -- the removal, by its row over the machine's own tables
 pub remove_moves : (layout : Layout) (old : State) (f : Frame) (entries : List Entry) → leaf_row (view_in layout old) (Eremove f) ≡ Ok →
-    ((g : ℕ) → entry_at entries g ≡ (if g == f.0 then record (entry_at old.entries g) { valid = false } else entry_at old.entries g)) →
+    FreesEntry old.entries entries f.0 →
     IsMove layout old (record old { entries = entries }) (Eremove f) Ok None
 remove_moves layout old f entries row sets =
     leaf_moves layout old (record old { entries = entries }) (Eremove f) Ok refl row (λ past tables there. remove_changes layout past old f entries tables sets)

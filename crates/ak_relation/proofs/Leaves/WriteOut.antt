@@ -2,7 +2,7 @@
 use Rattle.std.proofs.Common.{◌≡◌, inl, inr, ℕ, ◌+◌, ◌*◌, ◌<◌, refl, ap, sym, ◌∙◌, subst, arith}
 use Rattle.std.proofs.lemmas.Bool.{eqb-true, eqb-false}
 use Rattle.std.proofs.lemmas.Bool.Decides.{nat_tests, eqb_tells}
-use Rattle.std.specs.Prelude.{Bool, true, false, ◌&&◌, not, nat_lt, option_map, Option, Some, None, ◌==◌, if◌then◌else◌}
+use Rattle.std.specs.Prelude.{Bool, true, false, ◌&&◌, not, nat_lt, List, option_map, Option, Some, None, ◌==◌, if◌then◌else◌}
 use Rattle.ak_core.specs.Layout.{Layout}
 use Rattle.ak_core.specs.declared.page.Entry.{Entry}
 use Rattle.ak_model.specs.Paging.Histories.{History}
@@ -18,12 +18,22 @@ use Rattle.ak_relation.specs.State.MachineState.{State, copy}
 use Rattle.ak_relation.specs.State.Tables.{IsSealedPageOf, SealedPageAgrees, TablesStand}
 use Rattle.ak_model.specs.Flat.Instructions.{number_at}
 use Rattle.ak_sealed.specs.SealedPages.{version, sealed_page_of}
+use Rattle.ak_relation.specs.State.TableChanges.{FreesEntry}
 use Rattle.ak_relation.specs.Premises.WriteOut.{WritesOutTo}
 
+-- the entry is free, or it is the same
+abbrev pub FreedOr : Bool → Entry → Entry → Type 0
+FreedOr true old new = new.valid ≡ false
+FreedOr false old new = new ≡ old
+
+pub freed_or : (old new : List Entry) (f : ℕ) → FreesEntry old new f → (g : ℕ) (b : Bool) → (g == f) ≡ b → FreedOr b (entry_at old g) (entry_at new g)
+freed_or old new f h g true e = subst (λ k. (entry_at new k).valid ≡ false) (sym (eqb-true g f e)) h.freed
+freed_or old new f h g false e = h.others g e
+
 -- the entry of the frame is free
-pub freed_entry : (layout : Layout) (b : Bool) (old new : Entry) (h : Held) (o : Option ℕ) → new ≡ (if b then record old { valid = false } else old) → EntryAgrees layout old h o →
+pub freed_entry : (layout : Layout) (b : Bool) (old new : Entry) (h : Held) (o : Option ℕ) → FreedOr b old new → EntryAgrees layout old h o →
     EntryAgrees layout new (if b then FreeFrame else h) (if b then None else o)
-freed_entry layout true old new h o sets agrees = ap (λ (e : Entry). e.valid) sets
+freed_entry layout true old new h o sets agrees = sets
 freed_entry layout false old new h o sets agrees = subst (λ (e : Entry). EntryAgrees layout e h o) (sym sets) agrees
 
 -- a VA frame is another one

@@ -26,7 +26,7 @@ use Rattle.ak_relation.specs.Premises.WriteOut.{WritesOutTo}
 use Rattle.ak_relation.specs.Relation.Does.{IsMove}
 use Rattle.ak_model.proofs.Control.LeafRows.{frame_ok}
 use Rattle.ak_relation.proofs.Leaves.LeafMoves.{leaf_moves}
-use Rattle.ak_relation.proofs.Leaves.WriteOut.{freed_entry, still_va, slot_stands, sealed_page_stands, sealed_pages_are, page_is, copy_stands, copies_after, stamp_stands}
+use Rattle.ak_relation.proofs.Leaves.WriteOut.{freed_or, freed_entry, still_va, slot_stands, sealed_page_stands, sealed_pages_are, page_is, copy_stands, copies_after, stamp_stands}
 
 page_if : (h : Held) (x : Answer) (k : Handle) → if_page h x ≡ OkHandle k → ((q : ℕ) × (h ≡ PageFrame q)) × (x ≡ OkHandle k)
 page_if (PageFrame q) x k e = ((q, refl), e)
@@ -53,7 +53,7 @@ module _ (layout : Layout) (old new : State) (f va : Frame) (i : ℕ) (w : Write
         inl (ap (λ k. copy new (if is_page_in k p then InHandle (given layout past) else place layout past p)) is
         ∙ copy_stands layout past old new f.0 va.0 i q h w is in_va p (place layout past p) (p == q) refl refl);
     tables = record {
-      entries = record { entry = λ g. freed_entry layout (g == f.0) (entry_at old.entries g) (entry_at new.entries g) (held layout past g) (blocked_at past g) (w.entry g) (h.entries.entry g) };
+      entries = record { entry = λ g. freed_entry layout (g == f.0) (entry_at old.entries g) (entry_at new.entries g) (held layout past g) (blocked_at past g) (freed_or old.entries new.entries f.0 w.entry g (g == f.0) refl) (h.entries.entry g) };
       slots = record {
         versions = λ wa j v lt.
             let still = still_va (wa == f.0) (held layout past wa) v in
@@ -73,7 +73,7 @@ module _ (layout : Layout) (old new : State) (f va : Frame) (i : ℕ) (w : Write
         steps_are = w.track ∙ h.tracking.steps_are;
         stamped = λ g s e. stamp_stands layout past old new f.0 va.0 i q h w is in_va g s (g == f.0) e;
       };
-      frames = record { whole = w.whole };
+      frames = record { whole = λ g. w.lengths g ∙ h.frames.whole g };
       one_copy = copies_after layout past old new f.0 va.0 i q h w is in_va (held layout past f.0) is;
     };
   }

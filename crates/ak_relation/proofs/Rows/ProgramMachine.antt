@@ -26,7 +26,7 @@ use Rattle.ak_relation.proofs.Leaves.LoadMoves.{eldu_moves}
 use Rattle.ak_relation.proofs.Leaves.DoneMoves.{set_pte_moves}
 use Rattle.ak_relation.proofs.Entering.EnterMoves.{enter_moves}
 use Rattle.ak_relation.proofs.Rows.BlankPages.{blank, blank_at, blank_whole, one_slot, other_slots}
-use Rattle.ak_relation.proofs.Rows.BuiltMachine.{in_use, built_entries, program_sealed, image_whole, outside, built, is_built}
+use Rattle.ak_relation.proofs.Rows.BuiltMachine.{in_use, built_entries, program_sealed, image_whole, built_whole, outside, built, is_built}
 use Rattle.ak_relation.proofs.Rows.EnteredMachine.{inside}
 use Rattle.ak_relation.proofs.Rows.WrittenMachine.{frame}
 
@@ -82,7 +82,7 @@ loads = record {
   others = other_frames;
   slot = blank_at 0 8;
   slots = λ j other lt. same_slots j other;
-  whole = fetched_whole;
+  lengths = λ g. fetched_whole g ∙ sym (built_whole g);
   stamps = λ g. refl;
   sealed_pages = refl;
   next = refl;

@@ -1,5 +1,5 @@
 -- The machine of the example after the area was loaded into another frame and mapped there, and the processor was resumed from it.
-use Rattle.std.proofs.Common.{◌≡◌, ℕ, zero, suc, ◌-◌, List, [], ◌∷◌, length, refl, ap, sym, subst, arith}
+use Rattle.std.proofs.Common.{◌≡◌, ℕ, zero, suc, ◌-◌, List, [], ◌∷◌, length, refl, ap, sym, ◌∙◌, subst, arith}
 use Rattle.std.proofs.lemmas.Bool.Decides.{nat_tests}
 use Rattle.std.specs.Prelude.{Bool, true, false, None, ◌==◌, if◌then◌else◌}
 use Rattle.ak_core.specs.declared.page.Entry.{Entry}
@@ -29,7 +29,7 @@ use Rattle.ak_ssa.proofs.RegistersReturn.{area_back}
 use Rattle.ak_relation.proofs.Rows.BlankPages.{blank, blank_at, blank_whole, one_slot, two_slots, one_slot_whole, one_saved, one_saved_at, area_with, area_whole, area_has, other_slots, other_than_second}
 use Rattle.ak_relation.proofs.Rows.BuiltMachine.{page_valid, in_use, outside}
 use Rattle.ak_relation.proofs.Rows.EnteredMachine.{its_regs, its_frame, its_words, frame_size, saved_frames, saved_whole}
-use Rattle.ak_relation.proofs.Rows.WrittenMachine.{frame, area_sealed, written_entries, written, write_reached}
+use Rattle.ak_relation.proofs.Rows.WrittenMachine.{frame, area_sealed, written_entries, written, written_whole, write_reached}
 
 -- ---- The load
 
@@ -84,7 +84,7 @@ loads = record {
   others = other_frames;
   slot = other_slots 0;
   slots = λ j other lt. sym (other_than_second j other);
-  whole = loaded_whole;
+  lengths = λ g. loaded_whole g ∙ sym (written_whole g);
   stamps = λ g. refl;
   sealed_pages = refl;
   next = refl;

@@ -1,5 +1,5 @@
 -- The machine of the example after the area with its saved frame was blocked and written out.
-use Rattle.std.proofs.Common.{◌≡◌, ℕ, zero, suc, List, [], ◌∷◌, length, refl, arith}
+use Rattle.std.proofs.Common.{◌≡◌, ℕ, zero, suc, List, [], ◌∷◌, length, refl, sym, ◌∙◌, arith}
 use Rattle.std.proofs.lemmas.Bool.Decides.{nat_tests}
 use Rattle.std.specs.Prelude.{Bool, true, false, Some, None, ◌==◌, if◌then◌else◌}
 use Rattle.ak_core.specs.declared.page.Entry.{Entry}
@@ -95,6 +95,9 @@ written_entry (suc (suc (suc (suc (suc (suc (suc zero))))))) = refl
 written_entry (suc (suc (suc (suc (suc (suc (suc (suc g)))))))) =
     let other : (suc (suc (suc (suc (suc (suc (suc (suc g))))))) == 3) ≡ false = grind (arith, nat_tests) in rw other refl
 
+written_others : (g : ℕ) → (g == 3) ≡ false → entry_at written_entries g ≡ entry_at blocked_entries g
+written_others g other = let at_g = written_entry g in rw other at at_g
+
 pub written_whole : (f : ℕ) → length (written.frames f) ≡ 4096
 written_whole f = by (f == 1)
   where
@@ -104,11 +107,11 @@ written_whole f = by (f == 1)
 
 writes : WritesOutTo cycled written 3 1 1
 writes = record {
-  entry = written_entry;
+  entry = record { freed = refl; others = written_others };
   others = λ g no_area no_slots. rw no_slots refl;
   slot = second_slot;
   slots = λ j other lt. other_than_second j other;
-  whole = written_whole;
+  lengths = λ g. written_whole g ∙ sym (saved_whole g);
   sealed_page = λ j. refl;
   next = refl;
   table = refl;

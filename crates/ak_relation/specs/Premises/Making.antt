@@ -12,7 +12,7 @@ pub record MakesSlots (old new : State) (f : ℕ) : Type 0 where
   pub entry : (g : ℕ) → (g == f) ≡ false → entry_at new.entries g ≡ entry_at old.entries g
   pub empty : (j : ℕ) → j < 512 → number_at (new.frames f) (8 * j) 8 ≡ 0
   pub others : (g : ℕ) → (g == f) ≡ false → new.frames g ≡ old.frames g
-  pub whole : (g : ℕ) → length (new.frames g) ≡ 4096
+  pub lengths : (g : ℕ) → length (new.frames g) ≡ length (old.frames g)
   pub sealed_pages : new.sealed_pages ≡ old.sealed_pages
   pub next : new.next ≡ old.next
   pub table : new.table ≡ old.table

@@ -24,9 +24,10 @@ BlocksEntry old new f = (g : ℕ) → entry_at new g ≡ (if g == f then record 
 abbrev pub with_block : State → List Entry → ℕ → State
 with_block state entries f = record state { entries = entries; stamps = λ g. if g == f then length state.track else state.stamps g }
 
--- the entry of frame f is no longer valid, and no other differs
-abbrev pub FreesEntry : List Entry → List Entry → ℕ → Type 0
-FreesEntry old new f = (g : ℕ) → entry_at new g ≡ (if g == f then record (entry_at old g) { valid = false } else entry_at old g)
+-- the entry of frame f is no longer valid, and no other differs. What else it says may be anything
+pub record FreesEntry (old new : List Entry) (f : ℕ) : Type 0 where
+  pub freed : (entry_at new f).valid ≡ false
+  pub others : (g : ℕ) → (g == f) ≡ false → entry_at new g ≡ entry_at old g
 
 -- these entries
 abbrev pub with_entries : State → List Entry → State

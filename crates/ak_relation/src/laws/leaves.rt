@@ -17,6 +17,7 @@ ghost use Rattle.ak_model.specs.Paging.Build.{known_pages};
 ghost use Rattle.ak_model.specs.Paging.Histories.{History, change};
 ghost use Rattle.ak_model.specs.Paging.Pages.{all_pages};
 ghost use Rattle.ak_model.specs.Laws.OpenFrames.{KeepsOpen};
+ghost use Rattle.ak_relation.specs.Premises.LeafDoes.{DoesLeaf};
 ghost use Rattle.ak_relation.specs.Premises.Leaves.{LeafChanges};
 ghost use Rattle.ak_relation.specs.Premises.Loading.{LoadsFrom};
 ghost use Rattle.ak_relation.specs.Premises.Making.{MakesSlots};
@@ -62,6 +63,12 @@ pub fn table_moves()
         → FreesEntry old.entries entries f.0 → IsMove layout old (with_entries old entries) (Eremove f) Ok None }
     ensures discard { (layout : Layout.Layout) (old : State) (k : Handle) → leaf_row (view_in layout old) (Discard k) ≡ Ok
         → IsMove layout old (without_sealed_page old k.0) (Discard k) Ok None }
+{}
+
+/// Each leaf that is answered by its row, and done, is a move, where it does what its change says.
+pub fn leaf_does()
+    ensures { (layout : Layout.Layout) (old new : State) (m : Move) (a : Answer) → is_leaf m ≡ true → is_done a ≡ true
+        → leaf_row (view_in layout old) m ≡ a → DoesLeaf old new m → IsMove layout old new m a None }
 {}
 
 /// A write-out, a load, with a block or without, and a new VA page are moves, each by its row, of a machine that shows what it does.

@@ -1,0 +1,4 @@
+pub mod SlotChanges
+pub mod Versions
+pub mod Soundness
+pub mod Discarding

@@ -1,0 +1,13 @@
+//! Tests of `ak_encls`, through its public calls: scripts of leaves with the answers that are expected.
+#![tactic(auto)]
+
+#[cfg(test)]
+mod building;
+#[cfg(test)]
+mod enclave;
+#[cfg(test)]
+mod kernels;
+#[cfg(test)]
+mod refusals;
+#[cfg(test)]
+mod rows;
