@@ -1,0 +1,3 @@
+pub mod TcsBytes
+pub mod Processors
+pub mod EnterAnswers

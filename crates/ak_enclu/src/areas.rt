@@ -1,0 +1,70 @@
+// Which frames an entering finds, by walks over the page table and the EPCM and by the bytes of the TCS.
+ghost use Rattle.std.specs.Prelude.{◌≡◌, ◌≤◌, ◌<◌, ◌+◌, ◌-◌, ◌^◌, length, if◌then◌else◌};
+ghost use Rattle.ak_core.specs.declared.moves.Answer.TheVariants.{Ok as Done, SsaFault};
+ghost use Rattle.ak_enclu.specs.EnterAnswers.{pte_at, finds_tcs, finds_area, area_page, unless_outside, enter_area, resume_area, if_ok};
+ghost use Rattle.ak_enclu.specs.TcsBytes.{saved_of};
+
+use crate::tcs::{is_pending, saved};
+use ak_core::{Answer, Frame, Kind, PAGE_SIZE, Page, SSA_AREAS};
+use ak_epcm::Epcm;
+use ak_pte::PageTable;
+use ak_walk::{walk, walk_tcs};
+
+/// The frame of the TCS, where the processor is outside, a walk finds it, and no other processor is inside.
+pub(crate) fn tcs_frame(inside: bool, tcs: Page, table: &PageTable, epcm: &Epcm, busy: bool) -> Result<Frame, Answer>
+    requires { tcs.0 < length table.now }
+    ensures { result ≡ if_ok (unless_outside inside (finds_tcs epcm.now table.now tcs.0) busy Done) (pte_at table.now tcs.0).frame }
+{
+    if inside {
+        return Err(Answer::Inside);
+    }
+    match walk_tcs(table.get(tcs), epcm, tcs) {
+        Ok(_) if busy => Err(Answer::Busy),
+        Ok(frame) => Ok(frame),
+        Err(_) => Err(Answer::TcsFault),
+    }
+}
+
+/// The frame of the area into which a processor that enters would be saved.
+pub(crate) fn area_to_enter(tcs: Page, bytes: &[u8; PAGE_SIZE], table: &PageTable, epcm: &Epcm) -> Result<Frame, Answer>
+    requires areas { tcs.0 + 3 < length table.now }
+    requires numbers { tcs.0 + 3 < 2 ^ 32 }
+    requires saved { saved_of bytes.now ≤ 3 }
+    ensures { result ≡ if_ok (enter_area epcm.now table.now tcs.0 bytes.now) (pte_at table.now (area_page tcs.0 (saved_of bytes.now))).frame }
+{
+    let saved = saved(bytes);
+    if saved == SSA_AREAS {
+        return Err(Answer::Gp);
+    }
+    area_frame(tcs, saved, table, epcm)
+}
+
+/// The frame of the area that a processor would resume.
+pub(crate) fn area_to_resume(tcs: Page, bytes: &[u8; PAGE_SIZE], table: &PageTable, epcm: &Epcm) -> Result<Frame, Answer>
+    requires areas { tcs.0 + 3 < length table.now }
+    requires numbers { tcs.0 + 3 < 2 ^ 32 }
+    requires saved { saved_of bytes.now ≤ 3 }
+    ensures { result ≡ if_ok (resume_area epcm.now table.now tcs.0 bytes.now) (pte_at table.now (area_page tcs.0 (saved_of bytes.now - 1))).frame }
+{
+    let saved = saved(bytes);
+    if saved == 0 {
+        return Err(Answer::Gp);
+    }
+    if is_pending(bytes) {
+        return Err(Answer::Pending);
+    }
+    area_frame(tcs, saved - 1, table, epcm)
+}
+
+/// The frame of an area, where a walk for writing finds it.
+fn area_frame(tcs: Page, i: u32, table: &PageTable, epcm: &Epcm) -> Result<Frame, Answer>
+    requires page { tcs.0 + 1 + i < length table.now }
+    requires number { tcs.0 + 1 + i < 2 ^ 32 }
+    ensures { result ≡ if_ok (if finds_area epcm.now table.now (area_page tcs.0 i) then Done else SsaFault) (pte_at table.now (area_page tcs.0 i)).frame }
+{
+    let area = Page(tcs.0 + 1 + i);
+    match walk(table.get(area), epcm, area, Kind::Write) {
+        Ok(frame) => Ok(frame),
+        Err(_) => Err(Answer::SsaFault),
+    }
+}

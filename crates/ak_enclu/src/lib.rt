@@ -1,0 +1,9 @@
+//! Entering and leaving the enclave: EENTER, ERESUME, EEXIT and the asynchronous exit, over the bytes of the TCS and of the
+//! saved-state areas (SDM volume 3D, "SGX Instruction References").
+#![tactic(auto)]
+
+mod areas;
+mod cpu;
+mod tcs;
+
+pub use cpu::Cpu;
