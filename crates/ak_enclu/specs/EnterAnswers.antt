@@ -10,6 +10,7 @@ use Rattle.ak_epcm.specs.Entries.{entry_at}
 use Rattle.ak_pte.specs.Table.{unmapped}
 use Rattle.ak_pte.specs.declared.table.Pte.{Pte}
 use Rattle.ak_walk.specs.Finds.{walk_finds, tcs_walk_finds}
+use Rattle.ak_enclu.specs.declared.areas.Held.{Held}
 use Rattle.ak_enclu.specs.TcsBytes.{saved_of, pending_of}
 
 -- a page's entry in the page table; a page that there is not is mapped to nothing
@@ -62,3 +63,7 @@ resume_answer entries table tcs bytes inside busy =
 abbrev pub if_ok : {T : Type 0} → Answer → T → Result T Answer
 if_ok Ok x = Result.Ok x
 if_ok refusal x = Result.Err refusal
+
+-- the frames that an entering finds, by the number of its area
+abbrev pub held_at : List Pte → ℕ → ℕ → Held
+held_at table tcs i = record { tcs = (pte_at table tcs).frame; ssa = (pte_at table (area_page tcs i)).frame; area = i }

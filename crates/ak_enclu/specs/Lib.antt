@@ -1,3 +1,4 @@
 pub mod TcsBytes
 pub mod Processors
 pub mod EnterAnswers
+pub mod Passing

@@ -1,6 +1,7 @@
 // Which frames an entering finds, by walks over the page table and the EPCM and by the bytes of the TCS.
-ghost use Rattle.std.specs.Prelude.{◌≡◌, ◌≤◌, ◌<◌, ◌+◌, ◌-◌, ◌^◌, length, if◌then◌else◌};
+ghost use Rattle.std.specs.Prelude.{◌≡◌, ◌≤◌, ◌<◌, ◌+◌, ◌-◌, ◌^◌, true, length, IfOk, if◌then◌else◌};
 ghost use Rattle.ak_core.specs.declared.moves.Answer.TheVariants.{Ok as Done, SsaFault};
+ghost use Rattle.ak_epcm.specs.Entries.{entry_at, has_page, is_of_page};
 ghost use Rattle.ak_enclu.specs.EnterAnswers.{pte_at, finds_tcs, finds_area, area_page, unless_outside, enter_area, resume_area, if_ok};
 ghost use Rattle.ak_enclu.specs.TcsBytes.{saved_of};
 
@@ -10,10 +11,21 @@ use ak_epcm::Epcm;
 use ak_pte::PageTable;
 use ak_walk::{walk, walk_tcs};
 
+/// The frames that a processor holds while it is inside.
+pub(crate) struct Held {
+    /// That of the TCS.
+    pub(crate) tcs: Frame,
+    /// That of the area for its next asynchronous exit.
+    pub(crate) ssa: Frame,
+    /// The number of that area: how many contexts are saved while it is inside.
+    pub(crate) area: u32,
+}
+
 /// The frame of the TCS, where the processor is outside, a walk finds it, and no other processor is inside.
 pub(crate) fn tcs_frame(inside: bool, tcs: Page, table: &PageTable, epcm: &Epcm, busy: bool) -> Result<Frame, Answer>
     requires { tcs.0 < length table.now }
-    ensures { result ≡ if_ok (unless_outside inside (finds_tcs epcm.now table.now tcs.0) busy Done) (pte_at table.now tcs.0).frame }
+    ensures row { result ≡ if_ok (unless_outside inside (finds_tcs epcm.now table.now tcs.0) busy Done) (pte_at table.now tcs.0).frame }
+    ensures page { IfOk result (λ f. has_page (entry_at epcm.now f.0) tcs.0 ≡ true) }
 {
     if inside {
         return Err(Answer::Inside);
@@ -30,7 +42,8 @@ pub(crate) fn area_to_enter(tcs: Page, bytes: &[u8; PAGE_SIZE], table: &PageTabl
     requires areas { tcs.0 + 3 < length table.now }
     requires numbers { tcs.0 + 3 < 2 ^ 32 }
     requires saved { saved_of bytes.now ≤ 3 }
-    ensures { result ≡ if_ok (enter_area epcm.now table.now tcs.0 bytes.now) (pte_at table.now (area_page tcs.0 (saved_of bytes.now))).frame }
+    ensures row { result ≡ if_ok (enter_area epcm.now table.now tcs.0 bytes.now) (pte_at table.now (area_page tcs.0 (saved_of bytes.now))).frame }
+    ensures page { IfOk result (λ f. is_of_page (entry_at epcm.now f.0) ≡ true) }
 {
     let saved = saved(bytes);
     if saved == SSA_AREAS {
@@ -44,7 +57,8 @@ pub(crate) fn area_to_resume(tcs: Page, bytes: &[u8; PAGE_SIZE], table: &PageTab
     requires areas { tcs.0 + 3 < length table.now }
     requires numbers { tcs.0 + 3 < 2 ^ 32 }
     requires saved { saved_of bytes.now ≤ 3 }
-    ensures { result ≡ if_ok (resume_area epcm.now table.now tcs.0 bytes.now) (pte_at table.now (area_page tcs.0 (saved_of bytes.now - 1))).frame }
+    ensures row { result ≡ if_ok (resume_area epcm.now table.now tcs.0 bytes.now) (pte_at table.now (area_page tcs.0 (saved_of bytes.now - 1))).frame }
+    ensures page { IfOk result (λ f. is_of_page (entry_at epcm.now f.0) ≡ true) }
 {
     let saved = saved(bytes);
     if saved == 0 {
@@ -60,7 +74,8 @@ pub(crate) fn area_to_resume(tcs: Page, bytes: &[u8; PAGE_SIZE], table: &PageTab
 fn area_frame(tcs: Page, i: u32, table: &PageTable, epcm: &Epcm) -> Result<Frame, Answer>
     requires page { tcs.0 + 1 + i < length table.now }
     requires number { tcs.0 + 1 + i < 2 ^ 32 }
-    ensures { result ≡ if_ok (if finds_area epcm.now table.now (area_page tcs.0 i) then Done else SsaFault) (pte_at table.now (area_page tcs.0 i)).frame }
+    ensures row { result ≡ if_ok (if finds_area epcm.now table.now (area_page tcs.0 i) then Done else SsaFault) (pte_at table.now (area_page tcs.0 i)).frame }
+    ensures page { IfOk result (λ f. is_of_page (entry_at epcm.now f.0) ≡ true) }
 {
     let area = Page(tcs.0 + 1 + i);
     match walk(table.get(area), epcm, area, Kind::Write) {

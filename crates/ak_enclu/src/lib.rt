@@ -4,6 +4,10 @@
 
 mod areas;
 mod cpu;
+mod entering;
+mod leaving;
 mod tcs;
 
 pub use cpu::Cpu;
+pub use entering::{eenter, eresume};
+pub use leaving::{aex, eexit};

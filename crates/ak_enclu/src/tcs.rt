@@ -1,8 +1,9 @@
 // The fields of a TCS that entering and leaving change (SDM volume 3D, "Thread Control Structure").
-ghost use Rattle.std.specs.Prelude.{◌≡◌};
-ghost use Rattle.ak_enclu.specs.TcsBytes.{saved_of, pending_of, with_saved, with_pending};
+ghost use Rattle.std.specs.Prelude.{◌≡◌, ◌≤◌};
+ghost use Rattle.ak_enclu.specs.TcsBytes.{saved_of, pending_of, with_saved, with_pending, after_exit};
 
 use ak_core::PAGE_SIZE;
+use ak_ssa::Why;
 use byteorder::{ByteOrder, LittleEndian};
 
 /// Where CSSA stands: how many contexts are saved.
@@ -37,4 +38,17 @@ pub(crate) fn set_pending(tcs: &mut [u8; PAGE_SIZE], pending: bool)
     ensures { tcs.new ≡ with_pending pending tcs.old }
 {
     tcs[PENDING] = u8::from(pending);
+}
+
+/// Notes an asynchronous exit: one more context is saved, and resuming is refused unless it was an interrupt.
+pub(crate) fn note_exit(tcs: &mut [u8; PAGE_SIZE], why: Why)
+    requires { saved_of tcs.old ≤ 2 }
+    ensures { tcs.new ≡ after_exit why tcs.old }
+{
+    let saved = saved(tcs);
+    set_saved(tcs, saved + 1);
+    match why {
+        Why::Interrupt => {}
+        Why::Vector(_) | Why::PageFault(..) => set_pending(tcs, true),
+    }
 }
