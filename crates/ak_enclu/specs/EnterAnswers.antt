@@ -1,7 +1,7 @@
 -- The answers of EENTER and ERESUME to a processor that there is, by the EPCM, the page table and the bytes of the TCS, whatever its
 -- page is; the areas are the pages that follow. (SDM volume 3D, EENTER, ERESUME; that their walks are those of any access is the
 -- Autarky paper's.)
-use Rattle.std.specs.Prelude.{ℕ, ◌+◌, ◌-◌, Bool, not, List, Result, ◌==◌, if◌then◌else◌, slice_index_or}
+use Rattle.std.specs.Prelude.{ℕ, ◌+◌, ◌-◌, Bool, not, List, ◌==◌, if◌then◌else◌, slice_index_or}
 use Rattle.ak_core.specs.declared.moves.Answer.{Answer}
 use Rattle.ak_core.specs.declared.moves.Answer.TheVariants.{Ok, Inside, TcsFault, Busy, Gp, Pending, SsaFault}
 use Rattle.ak_core.specs.declared.page.Entry.{Entry}
@@ -58,11 +58,6 @@ enter_answer entries table tcs bytes inside busy =
 abbrev pub resume_answer : List Entry → List Pte → ℕ → List ℕ → Bool → Bool → Answer
 resume_answer entries table tcs bytes inside busy =
     unless_outside inside (finds_tcs entries table tcs) busy (resume_area entries table tcs bytes)
-
--- a value where the answer is Ok, and else the refusal
-abbrev pub if_ok : {T : Type 0} → Answer → T → Result T Answer
-if_ok Ok x = Result.Ok x
-if_ok refusal x = Result.Err refusal
 
 -- the frames that an entering finds, by the number of its area
 abbrev pub held_at : List Pte → ℕ → ℕ → Held

@@ -1,6 +1,6 @@
 -- What entering and leaving leave of a processor and of the enclave's paging part. (SDM volume 3D, EENTER, ERESUME, EEXIT,
 -- "Asynchronous Enclave Exit".)
-use Rattle.std.specs.Prelude.{◌≡◌, ℕ, ◌≤◌, true, false, List, [], ◌∷◌, slice_set}
+use Rattle.std.specs.Prelude.{◌≡◌, ℕ, ◌≤◌, ◌<◌, true, false, List, [], ◌∷◌, length, slice_set}
 use Rattle.ak_core.specs.declared.registers.Regs.{Regs}
 use Rattle.ak_epcm.specs.Entries.{entry_at, has_page}
 use Rattle.ak_pte.specs.declared.table.Pte.{Pte}
@@ -34,5 +34,6 @@ Steps old new step = (lps : ℕ) (steps : List TrackStep) → HoldsSteps old.tra
 
 -- processor lp entered: the TCS in this frame has these bytes, tracking has the step, and all else stays
 pub record EntersTo (lp tcs : ℕ) (bytes : List ℕ) (old new : Enclave) : Type 0 where
+  pub within : tcs < length old.frames
   pub leaves : new ≡ record old { frames = slice_set old.frames tcs bytes; track = new.track }
   pub track : Steps old new (EntersBy lp)

@@ -1,8 +1,11 @@
 // Which frames an entering finds, by walks over the page table and the EPCM and by the bytes of the TCS.
-ghost use Rattle.std.specs.Prelude.{◌≡◌, ◌≤◌, ◌<◌, ◌+◌, ◌-◌, ◌^◌, true, length, IfOk, if◌then◌else◌};
+ghost use Rattle.std.specs.Prelude.{◌≡◌, ◌≤◌, ◌<◌, ◌+◌, ◌-◌, ◌^◌, true, false, not, length, IfOk, IfErr, if◌then◌else◌};
+ghost use Rattle.ak_core.specs.declared.moves.Answer.{Answer as TheAnswer};
 ghost use Rattle.ak_core.specs.declared.moves.Answer.TheVariants.{Ok as Done, SsaFault};
 ghost use Rattle.ak_epcm.specs.Entries.{entry_at, has_page, is_of_page};
-ghost use Rattle.ak_enclu.specs.EnterAnswers.{pte_at, finds_tcs, finds_area, area_page, unless_outside, enter_area, resume_area, if_ok};
+ghost use Rattle.ak_model.specs.Kernels.Repeats.{is_done};
+ghost use Rattle.ak_encls.specs.Answering.{unless};
+ghost use Rattle.ak_enclu.specs.EnterAnswers.{pte_at, finds_tcs, finds_area, area_page, unless_outside, enter_area, resume_area};
 ghost use Rattle.ak_enclu.specs.TcsBytes.{saved_of};
 
 use crate::tcs::{is_pending, saved};
@@ -25,7 +28,9 @@ pub(crate) struct Held {
 /// The frame of the TCS, where the processor is outside, a walk finds it, and no other processor is inside.
 pub(crate) fn tcs_frame(inside: bool, tcs: Page, table: &PageTable, epcm: &Epcm, busy: bool) -> Result<Frame, Answer>
     requires { tcs.0 < length table.now }
-    ensures row { result ≡ if_ok (unless_outside inside (finds_tcs epcm.now table.now tcs.0) busy Done) (pte_at table.now tcs.0).frame }
+    ensures row { (answer : TheAnswer) → unless_outside inside (finds_tcs epcm.now table.now tcs.0) busy answer ≡ unless result answer }
+    ensures frame { IfOk result (λ f. f ≡ (pte_at table.now tcs.0).frame) }
+    ensures refusal { IfErr result (λ refusal. is_done refusal ≡ false) }
     ensures page { IfOk result (λ f. has_page (entry_at epcm.now f.0) tcs.0 ≡ true) }
 {
     if inside {
@@ -43,7 +48,9 @@ pub(crate) fn area_to_enter(tcs: Page, bytes: &[u8; PAGE_SIZE], table: &PageTabl
     requires areas { tcs.0 + 3 < length table.now }
     requires numbers { tcs.0 + 3 < 2 ^ 32 }
     requires saved { saved_of bytes.now ≤ 3 }
-    ensures row { result ≡ if_ok (enter_area epcm.now table.now tcs.0 bytes.now) (pte_at table.now (area_page tcs.0 (saved_of bytes.now))).frame }
+    ensures row { enter_area epcm.now table.now tcs.0 bytes.now ≡ unless result Done }
+    ensures frame { IfOk result (λ f. f ≡ (pte_at table.now (area_page tcs.0 (saved_of bytes.now))).frame) }
+    ensures refusal { IfErr result (λ refusal. is_done refusal ≡ false) }
     ensures page { IfOk result (λ f. is_of_page (entry_at epcm.now f.0) ≡ true) }
 {
     let saved = saved(bytes);
@@ -58,7 +65,10 @@ pub(crate) fn area_to_resume(tcs: Page, bytes: &[u8; PAGE_SIZE], table: &PageTab
     requires areas { tcs.0 + 3 < length table.now }
     requires numbers { tcs.0 + 3 < 2 ^ 32 }
     requires saved { saved_of bytes.now ≤ 3 }
-    ensures row { result ≡ if_ok (resume_area epcm.now table.now tcs.0 bytes.now) (pte_at table.now (area_page tcs.0 (saved_of bytes.now - 1))).frame }
+    ensures row { resume_area epcm.now table.now tcs.0 bytes.now ≡ unless result Done }
+    ensures frame { IfOk result (λ f. f ≡ (pte_at table.now (area_page tcs.0 (saved_of bytes.now - 1))).frame) }
+    ensures refusal { IfErr result (λ refusal. is_done refusal ≡ false) }
+    ensures some { IfOk result (λ _. 0 < saved_of bytes.now) }
     ensures page { IfOk result (λ f. is_of_page (entry_at epcm.now f.0) ≡ true) }
 {
     let saved = saved(bytes);
@@ -75,7 +85,9 @@ pub(crate) fn area_to_resume(tcs: Page, bytes: &[u8; PAGE_SIZE], table: &PageTab
 fn area_frame(tcs: Page, i: u32, table: &PageTable, epcm: &Epcm) -> Result<Frame, Answer>
     requires page { tcs.0 + 1 + i < length table.now }
     requires number { tcs.0 + 1 + i < 2 ^ 32 }
-    ensures row { result ≡ if_ok (if finds_area epcm.now table.now (area_page tcs.0 i) then Done else SsaFault) (pte_at table.now (area_page tcs.0 i)).frame }
+    ensures row { (if not (finds_area epcm.now table.now (area_page tcs.0 i)) then SsaFault else Done) ≡ unless result Done }
+    ensures frame { IfOk result (λ f. f ≡ (pte_at table.now (area_page tcs.0 i)).frame) }
+    ensures refusal { IfErr result (λ refusal. is_done refusal ≡ false) }
     ensures page { IfOk result (λ f. is_of_page (entry_at epcm.now f.0) ≡ true) }
 {
     let area = Page(tcs.0 + 1 + i);

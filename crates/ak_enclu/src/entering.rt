@@ -1,10 +1,12 @@
 // EENTER and ERESUME.
-ghost use Rattle.std.specs.Prelude.{◌≡◌, ℕ, ◌≤◌, ◌<◌, ◌+◌, ◌*◌, ◌-◌, ◌^◌, true, false, length, slice_set, IfOk};
+ghost use Rattle.std.specs.Prelude.{◌≡◌, ℕ, ◌≤◌, ◌<◌, ◌+◌, ◌*◌, ◌-◌, ◌^◌, true, false, length, slice_set, IfOk, IfErr};
+ghost use Rattle.ak_core.specs.declared.moves.Answer.TheVariants.{Ok as Done};
 ghost use Rattle.ak_epcm.specs.Entries.{entry_at, is_of_page};
 ghost use Rattle.ak_model.specs.Kernels.Repeats.{is_done};
 ghost use Rattle.ak_ssa.specs.SavedRegisters.{area_regs};
+ghost use Rattle.ak_encls.specs.Answering.{unless};
 ghost use Rattle.ak_encls.specs.Enclave.{frame_at};
-ghost use Rattle.ak_enclu.specs.EnterAnswers.{pte_at, area_page, enter_answer, resume_answer, if_ok, held_at};
+ghost use Rattle.ak_enclu.specs.EnterAnswers.{pte_at, area_page, enter_answer, resume_answer, held_at};
 ghost use Rattle.ak_enclu.specs.Passing.{tcs_at, HasFewSaved, inside_with, EntersTo};
 ghost use Rattle.ak_enclu.specs.Processors.{entry_regs_at};
 ghost use Rattle.ak_enclu.specs.TcsBytes.{saved_of, with_saved, with_pending};
@@ -94,8 +96,9 @@ fn held_to_enter(inside: bool, tcs: Page, table: &PageTable, leaves: &Encls, bus
     requires areas { tcs.0 + 3 < length table.now }
     requires numbers { tcs.0 + 3 < 2 ^ 32 }
     requires saved { HasFewSaved leaves.now tcs.0 }
-    ensures row { result ≡ if_ok (enter_answer leaves.now.entries table.now tcs.0 (tcs_at leaves.now table.now tcs.0) inside busy)
-        (held_at table.now tcs.0 (saved_of (tcs_at leaves.now table.now tcs.0))) }
+    ensures row { enter_answer leaves.now.entries table.now tcs.0 (tcs_at leaves.now table.now tcs.0) inside busy ≡ unless result Done }
+    ensures held { IfOk result (λ held. held ≡ held_at table.now tcs.0 (saved_of (tcs_at leaves.now table.now tcs.0))) }
+    ensures refusal { IfErr result (λ refusal. is_done refusal ≡ false) }
     ensures page { IfOk result (λ held. is_of_page (entry_at leaves.now.entries held.tcs.0) ≡ true) }
 {
     let frame = tcs_frame(inside, tcs, table, leaves.epcm(), busy)?;
@@ -110,8 +113,9 @@ fn held_to_resume(inside: bool, tcs: Page, table: &PageTable, leaves: &Encls, bu
     requires areas { tcs.0 + 3 < length table.now }
     requires numbers { tcs.0 + 3 < 2 ^ 32 }
     requires saved { HasFewSaved leaves.now tcs.0 }
-    ensures row { result ≡ if_ok (resume_answer leaves.now.entries table.now tcs.0 (tcs_at leaves.now table.now tcs.0) inside busy)
-        (held_at table.now tcs.0 (saved_of (tcs_at leaves.now table.now tcs.0) - 1)) }
+    ensures row { resume_answer leaves.now.entries table.now tcs.0 (tcs_at leaves.now table.now tcs.0) inside busy ≡ unless result Done }
+    ensures held { IfOk result (λ held. held ≡ held_at table.now tcs.0 (saved_of (tcs_at leaves.now table.now tcs.0) - 1)) }
+    ensures refusal { IfErr result (λ refusal. is_done refusal ≡ false) }
     ensures page { IfOk result (λ held. is_of_page (entry_at leaves.now.entries held.tcs.0) ≡ true) }
     ensures area { IfOk result (λ held. held.ssa.0 < length leaves.now.entries) }
 {
@@ -125,7 +129,8 @@ fn held_to_resume(inside: bool, tcs: Page, table: &PageTable, leaves: &Encls, bu
 /// The TCS in a frame refuses resuming no longer.
 fn clear_pending(leaves: &mut Encls, f: Frame)
     requires { is_of_page (entry_at leaves.old.entries f.0) ≡ true }
-    ensures { leaves.new ≡ record leaves.old { frames = slice_set leaves.old.frames f.0 (with_pending false (frame_at leaves.old.frames f.0)) } }
+    ensures within { f.0 < length leaves.old.frames }
+    ensures tcs { leaves.new ≡ record leaves.old { frames = slice_set leaves.old.frames f.0 (with_pending false (frame_at leaves.old.frames f.0)) } }
 {
     set_pending(leaves.frame_mut(f), false);
 }
@@ -133,7 +138,8 @@ fn clear_pending(leaves: &mut Encls, f: Frame)
 /// So many contexts are saved by the TCS in a frame.
 fn count_saved(leaves: &mut Encls, f: Frame, saved: u32)
     requires { is_of_page (entry_at leaves.old.entries f.0) ≡ true }
-    ensures { leaves.new ≡ record leaves.old { frames = slice_set leaves.old.frames f.0 (with_saved saved (frame_at leaves.old.frames f.0)) } }
+    ensures within { f.0 < length leaves.old.frames }
+    ensures tcs { leaves.new ≡ record leaves.old { frames = slice_set leaves.old.frames f.0 (with_saved saved (frame_at leaves.old.frames f.0)) } }
 {
     set_saved(leaves.frame_mut(f), saved);
 }

@@ -1,5 +1,5 @@
 // The asynchronous exit, and EEXIT.
-ghost use Rattle.std.specs.Prelude.{◌≡◌, ℕ, ◌≤◌, true, false, ◌==◌, length, take, slice_set};
+ghost use Rattle.std.specs.Prelude.{◌≡◌, ℕ, ◌≤◌, ◌<◌, true, false, ◌==◌, length, take, slice_set};
 ghost use Rattle.ak_epcm.specs.Entries.{entry_at, is_of_page};
 ghost use Rattle.ak_ssa.specs.SavedFrames.{HasSaved, area_place};
 ghost use Rattle.ak_track.specs.Steps.{LeavesBy};
@@ -53,6 +53,7 @@ fn save_into(leaves: &mut Encls, f: Frame, regs: &Regs, why: Why)
     ensures saved { HasSaved area_place (frame_at leaves.new.frames f.0) regs.now why }
     ensures below { take area_place (frame_at leaves.new.frames f.0) ≡ take area_place (frame_at leaves.old.frames f.0) }
     ensures rest { leaves.new ≡ record leaves.old { frames = slice_set leaves.old.frames f.0 (frame_at leaves.new.frames f.0) } }
+    ensures within { f.0 < length leaves.old.frames }
 {
     ak_ssa::save(leaves.frame_mut(f), regs, why);
 }
@@ -61,7 +62,8 @@ fn save_into(leaves: &mut Encls, f: Frame, regs: &Regs, why: Why)
 fn count_exit(leaves: &mut Encls, f: Frame, why: Why)
     requires page { is_of_page (entry_at leaves.old.entries f.0) ≡ true }
     requires saved { saved_of (frame_at leaves.old.frames f.0) ≤ 2 }
-    ensures { leaves.new ≡ record leaves.old { frames = slice_set leaves.old.frames f.0 (after_exit why (frame_at leaves.old.frames f.0)) } }
+    ensures within { f.0 < length leaves.old.frames }
+    ensures tcs { leaves.new ≡ record leaves.old { frames = slice_set leaves.old.frames f.0 (after_exit why (frame_at leaves.old.frames f.0)) } }
 {
     note_exit(leaves.frame_mut(f), why);
 }
