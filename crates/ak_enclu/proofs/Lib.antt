@@ -1,3 +1,1 @@
 mod Fields
-mod Answering
-mod Frames
