@@ -15,7 +15,7 @@ use ak_pte::PageTable;
 use ak_walk::{walk, walk_tcs};
 
 /// The frames that a processor holds while it is inside.
-#[derive(Clone, Copy, PartialEq, Eq, Debug)]
+#[derive(Clone, Copy)]
 pub(crate) struct Held {
     /// That of the TCS.
     pub(crate) tcs: Frame,

@@ -5,6 +5,7 @@
 mod areas;
 mod cpu;
 mod entering;
+pub mod laws;
 mod leaving;
 mod tcs;
 

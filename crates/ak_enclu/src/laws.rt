@@ -1,0 +1,50 @@
+// Laws that join entering and leaving to a machine's own tables and bytes.
+ghost use Rattle.std.specs.Prelude.{◌≡◌, ◌≢◌, ℕ, ◌+◌, ◌-◌, ◌*◌, ◌^◌, ◌<◌, ◌≤◌, Bool, true, false, List, length, not, ◌&&◌, ◌||◌, ◌==◌, take};
+ghost use Rattle.std.specs.List.{list_any};
+ghost use Rattle.ak_core.specs.Layout.{Layout};
+ghost use Rattle.ak_model.specs.Paging.Histories.{History};
+ghost use Rattle.ak_model.specs.Paging.Inside.{processors};
+ghost use Rattle.ak_model.specs.Paging.Pages.{tcs_page, ssa_page, code_page};
+ghost use Rattle.ak_pte.specs.declared.table.Pte.{Pte};
+ghost use Rattle.ak_ssa.specs.SavedFrames.{SavedCause, HasSaved, area_place, why_of};
+ghost use Rattle.ak_ssa.specs.SavedRegisters.{area_regs};
+ghost use Rattle.ak_ssa.specs.declared.cause.Why.{Why};
+ghost use Rattle.ak_track.specs.Steps.{LeavesBy};
+ghost use Rattle.ak_relation.specs.Bytes.Pages.{IsTcs};
+ghost use Rattle.ak_relation.specs.Premises.EnterRows.{enter_row, resume_row, saved_in};
+ghost use Rattle.ak_relation.specs.Premises.Entering.{EntersAt};
+ghost use Rattle.ak_relation.specs.Premises.Resuming.{ResumesAt};
+ghost use Rattle.ak_relation.specs.Premises.Works.{Quits};
+ghost use Rattle.ak_relation.specs.State.MachineState.{State};
+ghost use Rattle.ak_relation.specs.State.Tables.{TablesStand};
+ghost use Rattle.ak_encls.specs.Enclave.{Enclave, frame_at};
+ghost use Rattle.ak_enclu.specs.EnterAnswers.{pte_at, enter_answer, resume_answer, held_at};
+ghost use Rattle.ak_enclu.specs.Machines.{IsMachine, LeadsToWhere};
+ghost use Rattle.ak_enclu.specs.Passing.{tcs_at, inside_with, outside_now, EntersTo, Steps};
+ghost use Rattle.ak_enclu.specs.Processors.{entry_regs_at};
+ghost use Rattle.ak_enclu.specs.TcsBytes.{saved_of, pending_of, refuses, with_saved, with_pending, after_exit};
+ghost use Rattle.ak_enclu.specs.declared.cpu.Cpu.{Cpu as TheCpu};
+
+/// What was written into the fields of a TCS is read from them, and each leaves the other field. So a TCS says what entering,
+/// resuming and an asynchronous exit leave it to say.
+pub fn fields_return()
+    ensures cleared { (saved : ℕ) (pending : Bool) (bytes : List ℕ) → length bytes ≡ 4096 → IsTcs saved pending bytes → IsTcs saved false (with_pending false bytes) }
+    ensures counted { (saved below : ℕ) (pending : Bool) (bytes : List ℕ) → length bytes ≡ 4096 → below < 2 ^ 32 → IsTcs saved pending bytes
+        → IsTcs below pending (with_saved below bytes) }
+    ensures exited { (saved : ℕ) (pending : Bool) (bytes : List ℕ) (why : Why) → length bytes ≡ 4096 → saved ≤ 2 → IsTcs saved pending bytes
+        → IsTcs (saved + 1) (refuses why || pending) (after_exit why bytes) }
+{}
+
+/// Where the tables stand, the answers are the rows over the machine's own tables.
+pub fn answers_are_rows()
+    ensures enter { (layout : Layout) (past : History) (state : State) (cpu : TheCpu) (table : List Pte) (encls : Enclave) → TablesStand layout past state
+        → IsMachine layout cpu table encls state → cpu.lp.0 < layout.lps → saved_of (tcs_at encls table (tcs_page layout)) ≤ 3
+        → enter_answer encls.entries table (tcs_page layout) (tcs_at encls table (tcs_page layout)) cpu.inside
+            (list_any (λ q. (state.processors q).inside && not (q == cpu.lp.0)) (processors layout))
+        ≡ enter_row layout state cpu.lp.0 }
+    ensures resume { (layout : Layout) (past : History) (state : State) (cpu : TheCpu) (table : List Pte) (encls : Enclave) → TablesStand layout past state
+        → IsMachine layout cpu table encls state → cpu.lp.0 < layout.lps → saved_of (tcs_at encls table (tcs_page layout)) ≤ 3
+        → resume_answer encls.entries table (tcs_page layout) (tcs_at encls table (tcs_page layout)) cpu.inside
+            (list_any (λ q. (state.processors q).inside && not (q == cpu.lp.0)) (processors layout))
+        ≡ resume_row layout state cpu.lp.0 }
+{}
