@@ -9,7 +9,7 @@ ghost use Rattle.ak_enclu.specs.TcsBytes.{saved_of, after_exit};
 
 use crate::cpu::Cpu;
 use crate::tcs::note_exit;
-use ak_core::{Frame, Regs};
+use ak_core::{Frame, PAGE_SIZE, Regs};
 use ak_encls::Encls;
 use ak_ssa::Why;
 
@@ -24,6 +24,7 @@ pub fn aex(cpu: &mut Cpu, leaves: &mut Encls, why: Why)
     ensures cpu { cpu.new ≡ outside_now cpu.old }
     ensures area { HasSaved area_place (frame_at leaves.new.frames cpu.old.ssa.0) cpu.old.regs why }
     ensures below { take area_place (frame_at leaves.new.frames cpu.old.ssa.0) ≡ take area_place (frame_at leaves.old.frames cpu.old.ssa.0) }
+    ensures whole { length (frame_at leaves.new.frames cpu.old.ssa.0) ≡ PAGE_SIZE }
     ensures tcs { frame_at leaves.new.frames cpu.old.tcs.0 ≡ after_exit why (frame_at leaves.old.frames cpu.old.tcs.0) }
     ensures others { (g : ℕ) → (g == cpu.old.tcs.0) ≡ false → (g == cpu.old.ssa.0) ≡ false
         → frame_at leaves.new.frames g ≡ frame_at leaves.old.frames g }
@@ -52,6 +53,7 @@ fn save_into(leaves: &mut Encls, f: Frame, regs: &Regs, why: Why)
     requires { is_of_page (entry_at leaves.old.entries f.0) ≡ true }
     ensures saved { HasSaved area_place (frame_at leaves.new.frames f.0) regs.now why }
     ensures below { take area_place (frame_at leaves.new.frames f.0) ≡ take area_place (frame_at leaves.old.frames f.0) }
+    ensures whole { length (frame_at leaves.new.frames f.0) ≡ PAGE_SIZE }
     ensures rest { leaves.new ≡ record leaves.old { frames = slice_set leaves.old.frames f.0 (frame_at leaves.new.frames f.0) } }
     ensures within { f.0 < length leaves.old.frames }
 {
