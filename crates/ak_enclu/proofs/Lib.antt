@@ -1,2 +1,4 @@
 mod Fields
 mod Rows
+mod Changes
+mod Entered
