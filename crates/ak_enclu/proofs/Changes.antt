@@ -54,11 +54,12 @@ stamped stamp lps steps place step h = record {
 }
 
 -- it has the new processor and the new paging part
-module _ (layout : Layout) (state : State) (cpu after : Cpu) (table : List Pte) (encls : Enclave) (frames : List (List ℕ)) (track : Marks)
+module _ (layout : Layout) (state : State) (cpu after : Cpu) (table : List Pte) (encls : Enclave) (frames : List (List ℕ)) (track : Marks) (bytes_of : ℕ → List ℕ)
     (m : IsMachine layout cpu table encls state) (processor : Processor) (step : TrackStep) (same : after.lp.0 ≡ cpu.lp.0) (is : IsProcessor after processor)
-    (steps : Steps encls (record encls { frames = frames; track = track }) step) (of : IsStepOf cpu.lp.0 processor.inside step) where
+    (steps : Steps encls (record encls { frames = frames; track = track }) step) (of : IsStepOf cpu.lp.0 processor.inside step)
+    (read : (f : ℕ) → bytes_of f ≡ frame_at frames f) where
   abbrev new : State
-  new = moved state cpu.lp.0 processor (frame_at frames) step
+  new = moved state cpu.lp.0 processor bytes_of step
 
   inside_there : (q : ℕ) (b : Bool) → q < layout.lps → (if b then processor else state.processors q).inside ≡ (if b then processor.inside else inside_by state.track q)
   inside_there q true low = refl
@@ -68,7 +69,7 @@ module _ (layout : Layout) (state : State) (cpu after : Cpu) (table : List Pte) 
   paging = record {
     count = m.paging.count;
     entries = m.paging.entries;
-    frames = λ f. refl;
+    frames = read;
     sealed_pages = m.paging.sealed_pages;
     next = m.paging.next;
     track = steps layout.lps state.track m.paging.track;

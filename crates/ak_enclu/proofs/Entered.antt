@@ -53,8 +53,8 @@ module _ (layout : Layout) (past : History) (state : State) (cpu : Cpu) (table :
   pub machine : IsMachine layout after table new end
   machine =
       subst (λ e. IsMachine layout after table e end) (sym to.leaves)
-      (moved_machine layout state cpu after table encls frames new.track m processor (EntersBy cpu.lp.0) refl is_processor
-      (λ lps steps holds. to.track lps steps holds) (enters_by cpu.lp.0))
+      (moved_machine layout state cpu after table encls frames new.track (frame_at frames) m processor (EntersBy cpu.lp.0) refl is_processor
+      (λ lps steps holds. to.track lps steps holds) (enters_by cpu.lp.0) (λ i. refl))
 
   tcs_low : tcs_page layout < all_pages layout
   tcs_low = omega arith

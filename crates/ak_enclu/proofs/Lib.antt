@@ -2,3 +2,4 @@ mod Fields
 mod Rows
 mod Changes
 mod Entered
+mod Left

@@ -1,5 +1,5 @@
 // Laws that join entering and leaving to a machine's own tables and bytes.
-ghost use Rattle.std.specs.Prelude.{◌≡◌, ◌≢◌, ℕ, ◌+◌, ◌-◌, ◌*◌, ◌^◌, ◌<◌, ◌≤◌, Bool, true, false, List, length, not, ◌&&◌, ◌||◌, ◌==◌, take};
+ghost use Rattle.std.specs.Prelude.{◌≡◌, ◌≢◌, ℕ, ◌+◌, ◌-◌, ◌*◌, ◌^◌, ◌<◌, ◌≤◌, Bool, true, false, List, length, not, ◌&&◌, ◌||◌, ◌==◌};
 ghost use Rattle.std.specs.List.{list_any};
 ghost use Rattle.ak_core.specs.Layout.{Layout};
 ghost use Rattle.ak_core.specs.declared.registers.Mode.{Mode};
@@ -81,5 +81,5 @@ pub fn leaving_changes()
         → LeadsToWhere layout (outside_now cpu) table new (Saves layout cpu.lp.0 saved (refuses (why_of layout cause) || pending) cause state) }
     ensures quits { (layout : Layout) (state : State) (cpu : TheCpu) (table : List Pte) (encls new : Enclave) → IsMachine layout cpu table encls state
         → new ≡ record encls { track = new.track } → Steps encls new (LeavesBy cpu.lp.0)
-        → LeadsToWhere layout (outside_now cpu) table new (Quits cpu.lp.0 state) }
+        → LeadsToWhere layout (outside_now cpu) table new (λ end. Quits cpu.lp.0 state end × (end ≡ record state { processors = end.processors; track = end.track })) }
 {}
