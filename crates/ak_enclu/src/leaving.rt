@@ -1,10 +1,10 @@
 // The asynchronous exit, and EEXIT.
-ghost use Rattle.std.specs.Prelude.{◌≡◌, ℕ, ◌≤◌, ◌<◌, true, false, ◌==◌, length, take, slice_set};
+ghost use Rattle.std.specs.Prelude.{◌≡◌, ◌≤◌, ◌<◌, true, false, ◌==◌, length, take, slice_set};
 ghost use Rattle.ak_epcm.specs.Entries.{entry_at, is_of_page};
 ghost use Rattle.ak_ssa.specs.SavedFrames.{HasSaved, area_place};
 ghost use Rattle.ak_track.specs.Steps.{LeavesBy};
 ghost use Rattle.ak_encls.specs.Enclave.{frame_at};
-ghost use Rattle.ak_enclu.specs.Passing.{outside_now, Steps};
+ghost use Rattle.ak_enclu.specs.Passing.{outside_now, ExitsTo, Steps};
 ghost use Rattle.ak_enclu.specs.TcsBytes.{saved_of, after_exit};
 
 use crate::cpu::Cpu;
@@ -22,15 +22,7 @@ pub fn aex(cpu: &mut Cpu, leaves: &mut Encls, why: Why)
     requires apart { (cpu.old.tcs.0 == cpu.old.ssa.0) ≡ false }
     requires saved { saved_of (frame_at leaves.old.frames cpu.old.tcs.0) ≤ 2 }
     ensures cpu { cpu.new ≡ outside_now cpu.old }
-    ensures area { HasSaved area_place (frame_at leaves.new.frames cpu.old.ssa.0) cpu.old.regs why }
-    ensures below { take area_place (frame_at leaves.new.frames cpu.old.ssa.0) ≡ take area_place (frame_at leaves.old.frames cpu.old.ssa.0) }
-    ensures whole { length (frame_at leaves.new.frames cpu.old.ssa.0) ≡ PAGE_SIZE }
-    ensures tcs { frame_at leaves.new.frames cpu.old.tcs.0 ≡ after_exit why (frame_at leaves.old.frames cpu.old.tcs.0) }
-    ensures others { (g : ℕ) → (g == cpu.old.tcs.0) ≡ false → (g == cpu.old.ssa.0) ≡ false
-        → frame_at leaves.new.frames g ≡ frame_at leaves.old.frames g }
-    ensures rest { leaves.new ≡ record leaves.old { frames = leaves.new.frames; track = leaves.new.track } }
-    ensures count { length leaves.new.frames ≡ length leaves.old.frames }
-    ensures track { Steps leaves.old leaves.new (LeavesBy cpu.old.lp.0) }
+    ensures leaves { ExitsTo cpu.old why leaves.old leaves.new }
 {
     save_into(leaves, cpu.ssa, &cpu.regs, why);
     count_exit(leaves, cpu.tcs, why);
