@@ -97,7 +97,7 @@ module _ (layout : Layout) (past : History) (state : State) (cpu : Cpu) (table :
 
   pub entered : (v : ℕ) → saved_of old_tcs ≤ 2 → EntersTo cpu.lp.0 (pte_at table (tcs_page layout)).frame.0 (with_pending false old_tcs) encls new
       → LeadsToWhere layout (inside_with cpu (entry_regs_at (layout.base + 4096 * code_page layout) (saved_of old_tcs) v) (held_at table (tcs_page layout) (saved_of old_tcs)))
-          table new (EntersAt layout cpu.lp.0 (saved_of old_tcs) v state)
+      table new (EntersAt layout cpu.lp.0 (saved_of old_tcs) v state)
   entered v few to =
       let k = saved_of old_tcs in
       let regs = entry_regs_at (layout.base + 4096 * code_page layout) k v in
@@ -134,8 +134,8 @@ module _ (layout : Layout) (past : History) (state : State) (cpu : Cpu) (table :
   pub resumed : IsTcs (saved_of old_tcs) false old_tcs → saved_of old_tcs ≤ 3 → 0 < saved_of old_tcs
       → EntersTo cpu.lp.0 (pte_at table (tcs_page layout)).frame.0 (with_saved (saved_of old_tcs - 1) old_tcs) encls new
       → LeadsToWhere layout
-          (inside_with cpu (area_regs (frame_at encls.frames (pte_at table (ssa_page layout (saved_of old_tcs - 1))).frame.0)) (held_at table (tcs_page layout) (saved_of old_tcs - 1)))
-          table new (ResumesAt layout cpu.lp.0 (saved_of old_tcs - 1) state)
+      (inside_with cpu (area_regs (frame_at encls.frames (pte_at table (ssa_page layout (saved_of old_tcs - 1))).frame.0)) (held_at table (tcs_page layout) (saved_of old_tcs - 1)))
+      table new (ResumesAt layout cpu.lp.0 (saved_of old_tcs - 1) state)
   resumed says few some to =
       let k = saved_of old_tcs - 1 in
       let le : k ≤ 2 = omega (arith, few) in
@@ -156,7 +156,7 @@ module _ (layout : Layout) (past : History) (state : State) (cpu : Cpu) (table :
           flushed = ap (λ (p : Processor). p.fills) at;
           others = λ q other. processor_other state cpu.lp.0 q _ other;
           counted = subst (IsTcs k false) (tcs_bytes_are layout past state cpu table encls new h m regs k bytes le whole to)
-          (counted (saved_of old_tcs) k false old_tcs old_whole (omega (arith, le)) says);
+              (counted (saved_of old_tcs) k false old_tcs old_whole (omega (arith, le)) says);
           frames = others_stay layout past state cpu table encls new h m regs k bytes le whole to;
           whole = all_whole layout past state cpu table encls new h m regs k bytes le whole to;
           track = refl;

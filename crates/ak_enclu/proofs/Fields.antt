@@ -78,10 +78,10 @@ pub counted : (saved below : ℕ) (pending : Bool) (bytes : List ℕ) → length
 counted saved below pending bytes whole small h = record {
   saved_is = ap (λ l. le_value (take 4 l)) (after_field bytes below whole) ∙ value_back 4 below (omega (arith, small));
   pending_is =
-    ap (λ l. le_value (take 1 l)) (sym (drop-drop 48 24 (with_saved below bytes)))
-    ∙ ap (λ l. le_value (take 1 (drop 48 l))) (after_field bytes below whole)
-    ∙ ap (λ l. le_value (take 1 l)) (drop-drop 44 28 bytes)
-    ∙ h.pending_is;
+      ap (λ l. le_value (take 1 l)) (sym (drop-drop 48 24 (with_saved below bytes)))
+      ∙ ap (λ l. le_value (take 1 (drop 48 l))) (after_field bytes below whole)
+      ∙ ap (λ l. le_value (take 1 l)) (drop-drop 44 28 bytes)
+      ∙ h.pending_is;
 }
 
 pub counted_size : (saved : ℕ) (bytes : List ℕ) → length bytes ≡ 4096 → length (with_saved saved bytes) ≡ 4096

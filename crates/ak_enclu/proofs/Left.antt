@@ -61,14 +61,17 @@ module _ (layout : Layout) (state : State) (cpu : Cpu) (table : List Pte) (encls
       record {
         state = end;
         machine = subst (λ e. IsMachine layout (outside_now cpu) table e end) (sym rest)
-        (moved_machine layout state cpu (outside_now cpu) table encls encls.frames new.track state.frames m (gone cpu) (LeavesBy cpu.lp.0) refl (is_gone cpu)
-        (λ lps before holds. steps lps before holds) (leaves_by cpu.lp.0) m.paging.frames);
-        does = (record {
-          left = ap (λ (p : Processor). p.inside) at;
-          flushed = ap (λ (p : Processor). p.fills) at;
-          others = λ q other. processor_other state cpu.lp.0 q _ other;
-          track = refl;
-        }, refl);
+            (moved_machine layout state cpu (outside_now cpu) table encls encls.frames new.track state.frames m (gone cpu) (LeavesBy cpu.lp.0) refl (is_gone cpu)
+            (λ lps before holds. steps lps before holds) (leaves_by cpu.lp.0) m.paging.frames);
+        does = (
+          record {
+            left = ap (λ (p : Processor). p.inside) at;
+            flushed = ap (λ (p : Processor). p.fills) at;
+            others = λ q other. processor_other state cpu.lp.0 q _ other;
+            track = refl;
+          },
+          refl,
+        );
       }
 
 -- ---- An asynchronous exit
@@ -107,7 +110,7 @@ module _ (layout : Layout) (past : History) (state : State) (cpu : Cpu) (table :
           words = subst (λ (r : Regs). r.mode ≡ Mode.Runtime → AreRegs r) (sym m.processor.regs) words;
           fits = fits;
           tcs = subst (IsTcs (saved + 1) (refuses why || pending)) (sym (ap (frame_at new.frames) m.processor.tcs ∙ to.tcs))
-          (exited saved pending (frame_at encls.frames cpu.tcs.0) why (old_whole cpu.tcs.0) few says);
+              (exited saved pending (frame_at encls.frames cpu.tcs.0) why (old_whole cpu.tcs.0) few says);
           frames = λ g e d. to.others g (ap (λ t. g == t) (sym m.processor.tcs) ∙ e) (ap (λ t. g == t) (sym m.processor.ssa) ∙ d) ∙ sym (m.paging.frames g);
           whole = λ g. by_frame g (g == cpu.tcs.0) (g == cpu.ssa.0) refl refl;
           left = ap (λ (p : Processor). p.inside) at;

@@ -26,7 +26,13 @@ pub(crate) struct Held {
 }
 
 /// The frame of the TCS, where the processor is outside, a walk finds it, and no other processor is inside.
-pub(crate) fn tcs_frame(inside: bool, tcs: Page, table: &PageTable, epcm: &Epcm, busy: bool) -> Result<Frame, Answer>
+pub(crate) fn tcs_frame(
+    inside: bool,
+    tcs: Page,
+    table: &PageTable,
+    epcm: &Epcm,
+    busy: bool,
+) -> Result<Frame, Answer>
     requires { tcs.0 < length table.now }
     ensures row { (answer : TheAnswer) → unless_outside inside (finds_tcs epcm.now table.now tcs.0) busy answer ≡ unless result answer }
     ensures frame { IfOk result (λ f. f ≡ (pte_at table.now tcs.0).frame) }
@@ -44,7 +50,12 @@ pub(crate) fn tcs_frame(inside: bool, tcs: Page, table: &PageTable, epcm: &Epcm,
 }
 
 /// The frame of the area into which a processor that enters would be saved.
-pub(crate) fn area_to_enter(tcs: Page, bytes: &[u8; PAGE_SIZE], table: &PageTable, epcm: &Epcm) -> Result<Frame, Answer>
+pub(crate) fn area_to_enter(
+    tcs: Page,
+    bytes: &[u8; PAGE_SIZE],
+    table: &PageTable,
+    epcm: &Epcm,
+) -> Result<Frame, Answer>
     requires areas { tcs.0 + 3 < length table.now }
     requires numbers { tcs.0 + 3 < 2 ^ 32 }
     requires saved { saved_of bytes.now ≤ 3 }
@@ -61,7 +72,12 @@ pub(crate) fn area_to_enter(tcs: Page, bytes: &[u8; PAGE_SIZE], table: &PageTabl
 }
 
 /// The frame of the area that a processor would resume.
-pub(crate) fn area_to_resume(tcs: Page, bytes: &[u8; PAGE_SIZE], table: &PageTable, epcm: &Epcm) -> Result<Frame, Answer>
+pub(crate) fn area_to_resume(
+    tcs: Page,
+    bytes: &[u8; PAGE_SIZE],
+    table: &PageTable,
+    epcm: &Epcm,
+) -> Result<Frame, Answer>
     requires areas { tcs.0 + 3 < length table.now }
     requires numbers { tcs.0 + 3 < 2 ^ 32 }
     requires saved { saved_of bytes.now ≤ 3 }

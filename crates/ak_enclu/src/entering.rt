@@ -66,7 +66,13 @@ pub fn eenter(
 /// Refused, in this order: `Inside`, `TcsFault`, `Busy`, `Gp` where no context is saved, `Pending`, `SsaFault`. A refusal changes
 /// nothing. Else the processor is inside, with the registers of the newest area and with nothing cached; it holds the frames of the TCS
 /// and of that area; and one context fewer is saved.
-pub fn eresume(cpu: &mut Cpu, tcs: Page, table: &PageTable, leaves: &mut Encls, busy: bool) -> Answer
+pub fn eresume(
+    cpu: &mut Cpu,
+    tcs: Page,
+    table: &PageTable,
+    leaves: &mut Encls,
+    busy: bool,
+) -> Answer
     requires areas { tcs.0 + 3 < length table.now }
     requires numbers { tcs.0 + 3 < 2 ^ 32 }
     requires saved { HasFewSaved leaves.old tcs.0 }
@@ -92,7 +98,13 @@ pub fn eresume(cpu: &mut Cpu, tcs: Page, table: &PageTable, leaves: &mut Encls, 
 }
 
 /// The frames that an entering finds, or why it is refused.
-fn held_to_enter(inside: bool, tcs: Page, table: &PageTable, leaves: &Encls, busy: bool) -> Result<Held, Answer>
+fn held_to_enter(
+    inside: bool,
+    tcs: Page,
+    table: &PageTable,
+    leaves: &Encls,
+    busy: bool,
+) -> Result<Held, Answer>
     requires areas { tcs.0 + 3 < length table.now }
     requires numbers { tcs.0 + 3 < 2 ^ 32 }
     requires saved { HasFewSaved leaves.now tcs.0 }
@@ -105,11 +117,21 @@ fn held_to_enter(inside: bool, tcs: Page, table: &PageTable, leaves: &Encls, bus
     let bytes = leaves.frame(frame);
     let ssa = area_to_enter(tcs, bytes, table, leaves.epcm())?;
     let area = saved(bytes);
-    Ok(Held { tcs: frame, ssa, area })
+    Ok(Held {
+        tcs: frame,
+        ssa,
+        area,
+    })
 }
 
 /// The frames that a resuming finds, or why it is refused.
-fn held_to_resume(inside: bool, tcs: Page, table: &PageTable, leaves: &Encls, busy: bool) -> Result<Held, Answer>
+fn held_to_resume(
+    inside: bool,
+    tcs: Page,
+    table: &PageTable,
+    leaves: &Encls,
+    busy: bool,
+) -> Result<Held, Answer>
     requires areas { tcs.0 + 3 < length table.now }
     requires numbers { tcs.0 + 3 < 2 ^ 32 }
     requires saved { HasFewSaved leaves.now tcs.0 }
@@ -123,7 +145,11 @@ fn held_to_resume(inside: bool, tcs: Page, table: &PageTable, leaves: &Encls, bu
     let bytes = leaves.frame(frame);
     let ssa = area_to_resume(tcs, bytes, table, leaves.epcm())?;
     let area = saved(bytes) - 1;
-    Ok(Held { tcs: frame, ssa, area })
+    Ok(Held {
+        tcs: frame,
+        ssa,
+        area,
+    })
 }
 
 /// The TCS in a frame refuses resuming no longer.

@@ -43,12 +43,12 @@ pub fn answers_are_rows()
     ensures enter { (layout : Layout) (past : History) (state : State) (cpu : TheCpu) (table : List Pte) (encls : Enclave) → TablesStand layout past state
         → IsMachine layout cpu table encls state → cpu.lp.0 < layout.lps → saved_of (tcs_at encls table (tcs_page layout)) ≤ 3
         → enter_answer encls.entries table (tcs_page layout) (tcs_at encls table (tcs_page layout)) cpu.inside
-            (list_any (λ q. (state.processors q).inside && not (q == cpu.lp.0)) (processors layout))
+        (list_any (λ q. (state.processors q).inside && not (q == cpu.lp.0)) (processors layout))
         ≡ enter_row layout state cpu.lp.0 }
     ensures resume { (layout : Layout) (past : History) (state : State) (cpu : TheCpu) (table : List Pte) (encls : Enclave) → TablesStand layout past state
         → IsMachine layout cpu table encls state → cpu.lp.0 < layout.lps → saved_of (tcs_at encls table (tcs_page layout)) ≤ 3
         → resume_answer encls.entries table (tcs_page layout) (tcs_at encls table (tcs_page layout)) cpu.inside
-            (list_any (λ q. (state.processors q).inside && not (q == cpu.lp.0)) (processors layout))
+        (list_any (λ q. (state.processors q).inside && not (q == cpu.lp.0)) (processors layout))
         ≡ resume_row layout state cpu.lp.0 }
 {}
 
@@ -58,19 +58,19 @@ pub fn entering_changes()
         → IsMachine layout cpu table encls state → saved_of (tcs_at encls table (tcs_page layout)) ≤ 2
         → EntersTo cpu.lp.0 (pte_at table (tcs_page layout)).frame.0 (with_pending false (tcs_at encls table (tcs_page layout))) encls new
         → LeadsToWhere layout
-            (inside_with cpu (entry_regs_at (layout.base + 4096 * code_page layout) (saved_of (tcs_at encls table (tcs_page layout))) v)
-                (held_at table (tcs_page layout) (saved_of (tcs_at encls table (tcs_page layout)))))
-            table new (EntersAt layout cpu.lp.0 (saved_of (tcs_at encls table (tcs_page layout))) v state) }
+        (inside_with cpu (entry_regs_at (layout.base + 4096 * code_page layout) (saved_of (tcs_at encls table (tcs_page layout))) v)
+        (held_at table (tcs_page layout) (saved_of (tcs_at encls table (tcs_page layout)))))
+        table new (EntersAt layout cpu.lp.0 (saved_of (tcs_at encls table (tcs_page layout))) v state) }
     ensures resume { (layout : Layout) (past : History) (state : State) (cpu : TheCpu) (table : List Pte) (encls new : Enclave) → TablesStand layout past state
         → IsMachine layout cpu table encls state → IsTcs (saved_of (tcs_at encls table (tcs_page layout))) false (tcs_at encls table (tcs_page layout))
         → saved_of (tcs_at encls table (tcs_page layout)) ≤ 3 → 0 < saved_of (tcs_at encls table (tcs_page layout))
         → EntersTo cpu.lp.0 (pte_at table (tcs_page layout)).frame.0
-            (with_saved (saved_of (tcs_at encls table (tcs_page layout)) - 1) (tcs_at encls table (tcs_page layout))) encls new
+        (with_saved (saved_of (tcs_at encls table (tcs_page layout)) - 1) (tcs_at encls table (tcs_page layout))) encls new
         → LeadsToWhere layout
-            (inside_with cpu
-                (area_regs (frame_at encls.frames (pte_at table (ssa_page layout (saved_of (tcs_at encls table (tcs_page layout)) - 1))).frame.0))
-                (held_at table (tcs_page layout) (saved_of (tcs_at encls table (tcs_page layout)) - 1)))
-            table new (ResumesAt layout cpu.lp.0 (saved_of (tcs_at encls table (tcs_page layout)) - 1) state) }
+        (inside_with cpu
+        (area_regs (frame_at encls.frames (pte_at table (ssa_page layout (saved_of (tcs_at encls table (tcs_page layout)) - 1))).frame.0))
+        (held_at table (tcs_page layout) (saved_of (tcs_at encls table (tcs_page layout)) - 1)))
+        table new (ResumesAt layout cpu.lp.0 (saved_of (tcs_at encls table (tcs_page layout)) - 1) state) }
 {}
 
 /// What an asynchronous exit or EEXIT leaves is what it does to the machine, where the tables stand.
