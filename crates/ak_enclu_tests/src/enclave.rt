@@ -3,8 +3,8 @@
 use ak_core::{
     Answer, Build, Flags, Frame, Layout, Lp, OutOfMemory, PAGE_SIZE, Page, PageType, Perm,
 };
-use ak_enclu::{Cpu, eenter, eresume};
 use ak_encls::Encls;
+use ak_enclu::{Cpu, eenter, eresume};
 use ak_pte::{PageTable, Pte};
 use std::alloc::Global;
 use std::test::Fail;
@@ -36,6 +36,7 @@ pub const UNMAPPED: Flags = Flags {
 };
 
 /// The parts that a call is given.
+#[derive(Drop)]
 pub struct Parts {
     pub encls: Encls,
     pub table: PageTable,
@@ -69,7 +70,16 @@ impl Parts {
     }
 
     pub fn enter(&mut self, value: u64, busy: bool) -> Answer {
-        eenter(&mut self.cpu, value, TCS, CODE, &self.layout, &self.table, &mut self.encls, busy)
+        eenter(
+            &mut self.cpu,
+            value,
+            TCS,
+            CODE,
+            &self.layout,
+            &self.table,
+            &mut self.encls,
+            busy,
+        )
     }
 
     pub fn resume(&mut self, busy: bool) -> Answer {

@@ -7,7 +7,24 @@ use std::test::Fail;
 
 // The registers of a program.
 const REGS: Regs = Regs {
-    gpr: [1, 2, 3, 4, 5, 6, 7, 8, 9, 10, 11, 12, 13, 14, 15, 18446744073709551615],
+    gpr: [
+        1,
+        2,
+        3,
+        4,
+        5,
+        6,
+        7,
+        8,
+        9,
+        10,
+        11,
+        12,
+        13,
+        14,
+        15,
+        18446744073709551615,
+    ],
     rip: BASE + 5,
     cf: true,
     zf: false,
@@ -38,12 +55,22 @@ fn entering_starts_the_runtime(rt: HostRuntime) -> Result<(), Fail> {
             parts.cpu.regs = REGS;
             parts.cpu.tlb.fill(Page(0), Kind::Read, Frame(9));
             assert_eq!(rt; parts.enter(9, false), Answer::Ok);
-            assert_eq!(rt; parts.cpu.regs, at_entry(u64::from(saved), 9), "saved {saved}");
+            assert_eq!(rt;
+                parts.cpu.regs,
+                at_entry(u64::from(saved), 9),
+                "saved {saved}"
+            );
             assert!(rt; parts.cpu.inside);
-            assert_eq!(rt; (parts.cpu.tcs, parts.cpu.ssa), (Frame(2), Frame(3 + u32::from(saved))));
+            assert_eq!(rt;
+                (parts.cpu.tcs, parts.cpu.ssa),
+                (Frame(2), Frame(3 + u32::from(saved)))
+            );
             assert_eq!(rt; parts.cpu.tlb.find(Page(0), Kind::Read), None);
             assert_eq!(rt; parts.said(), (saved, false));
-            assert_eq!(rt; parts.encls.leaf(&Move::Eremove(Frame(6))), Answer::EnclaveActive);
+            assert_eq!(rt;
+                parts.encls.leaf(&Move::Eremove(Frame(6))),
+                Answer::EnclaveActive
+            );
             // EEXIT changes no field of the TCS
             parts.cpu.tlb.fill(Page(0), Kind::Read, Frame(9));
             eexit(&mut parts.cpu, &mut parts.encls);
@@ -76,7 +103,11 @@ fn what_an_exit_saves_is_resumed(rt: HostRuntime) -> Result<(), Fail> {
                 aex(&mut parts.cpu, &mut parts.encls, why);
                 assert!(rt; !parts.cpu.inside);
                 assert_eq!(rt; parts.cpu.tlb.find(Page(0), Kind::Read), None);
-                assert_eq!(rt; parts.said(), (saved + 1, pending || refuses), "saved {saved}");
+                assert_eq!(rt;
+                    parts.said(),
+                    (saved + 1, pending || refuses),
+                    "saved {saved}"
+                );
                 let area = parts.encls.frame(Frame(3 + u32::from(saved)));
                 assert_eq!(rt; ak_ssa::load(area), REGS);
                 assert_eq!(rt; ak_ssa::why(area), why);
@@ -88,7 +119,10 @@ fn what_an_exit_saves_is_resumed(rt: HostRuntime) -> Result<(), Fail> {
                 parts.cpu.tlb.fill(Page(0), Kind::Read, Frame(9));
                 assert_eq!(rt; parts.resume(false), Answer::Ok);
                 assert_eq!(rt; parts.cpu.regs, REGS, "saved {saved}");
-                assert_eq!(rt; (parts.cpu.tcs, parts.cpu.ssa), (Frame(2), Frame(3 + u32::from(saved))));
+                assert_eq!(rt;
+                    (parts.cpu.tcs, parts.cpu.ssa),
+                    (Frame(2), Frame(3 + u32::from(saved)))
+                );
                 assert_eq!(rt; parts.cpu.tlb.find(Page(0), Kind::Read), None);
                 assert_eq!(rt; parts.said(), (saved, false));
             }

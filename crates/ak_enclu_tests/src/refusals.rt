@@ -7,21 +7,64 @@ use std::test::Fail;
 fn the_first_refusal_is_the_answer(rt: HostRuntime) -> Result<(), Fail> {
     // the processor is inside, the TCS is mapped, another is inside, contexts that are saved, resuming is refused, the areas are mapped
     let cases = [
-        ((true, false, true, 3, true, false), Answer::Inside, Answer::Inside),
-        ((false, false, true, 3, true, false), Answer::TcsFault, Answer::TcsFault),
-        ((false, true, true, 3, true, false), Answer::Busy, Answer::Busy),
-        ((false, true, true, 0, true, false), Answer::Busy, Answer::Busy),
-        ((false, true, false, 3, true, false), Answer::Gp, Answer::Pending),
-        ((false, true, false, 0, true, false), Answer::SsaFault, Answer::Gp),
-        ((false, true, false, 1, true, false), Answer::SsaFault, Answer::Pending),
-        ((false, true, false, 2, false, false), Answer::SsaFault, Answer::SsaFault),
-        ((false, true, false, 3, false, false), Answer::Gp, Answer::SsaFault),
+        (
+            (true, false, true, 3, true, false),
+            Answer::Inside,
+            Answer::Inside,
+        ),
+        (
+            (false, false, true, 3, true, false),
+            Answer::TcsFault,
+            Answer::TcsFault,
+        ),
+        (
+            (false, true, true, 3, true, false),
+            Answer::Busy,
+            Answer::Busy,
+        ),
+        (
+            (false, true, true, 0, true, false),
+            Answer::Busy,
+            Answer::Busy,
+        ),
+        (
+            (false, true, false, 3, true, false),
+            Answer::Gp,
+            Answer::Pending,
+        ),
+        (
+            (false, true, false, 0, true, false),
+            Answer::SsaFault,
+            Answer::Gp,
+        ),
+        (
+            (false, true, false, 1, true, false),
+            Answer::SsaFault,
+            Answer::Pending,
+        ),
+        (
+            (false, true, false, 2, false, false),
+            Answer::SsaFault,
+            Answer::SsaFault,
+        ),
+        (
+            (false, true, false, 3, false, false),
+            Answer::Gp,
+            Answer::SsaFault,
+        ),
         ((false, true, false, 0, true, true), Answer::Ok, Answer::Gp),
         ((false, true, false, 1, false, true), Answer::Ok, Answer::Ok),
-        ((false, true, false, 2, true, true), Answer::Ok, Answer::Pending),
+        (
+            (false, true, false, 2, true, true),
+            Answer::Ok,
+            Answer::Pending,
+        ),
         ((false, true, false, 3, false, true), Answer::Gp, Answer::Ok),
     ];
-    for (i, ((inside, mapped, busy, saved, pending, areas), entered, resumed)) in cases.iter().enumerate() {
+    for (i, ((inside, mapped, busy, saved, pending, areas), entered, resumed)) in cases
+        .iter()
+        .enumerate()
+    {
         for resumes in [false, true] {
             let mut parts = built(rt.alloc())?;
             parts.say(*saved, *pending);
@@ -71,7 +114,10 @@ fn a_tcs_is_found_in_its_own_frame(rt: HostRuntime) -> Result<(), Fail> {
         assert_eq!(rt; parts.enter(0, false), expected, "frame {frame}");
     }
     let mut parts = built(rt.alloc())?;
-    assert_eq!(rt; parts.encls.leaf(&Move::Eblock(Frame(TCS_FRAME))), Answer::Ok);
+    assert_eq!(rt;
+        parts.encls.leaf(&Move::Eblock(Frame(TCS_FRAME))),
+        Answer::Ok
+    );
     assert_eq!(rt; parts.enter(0, false), Answer::TcsFault);
     Ok(())
 }
