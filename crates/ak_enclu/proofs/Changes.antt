@@ -1,24 +1,17 @@
 -- The machine after a processor entered or left.
-use Rattle.std.proofs.Common.{◌≡◌, ◌≢◌, ℕ, ◌+◌, ◌-◌, ◌*◌, ◌<◌, ◌≤◌, Bool, true, false, List, [], ◌∷◌, length, map, set, ◌==◌, if◌then◌else◌, refl, ap, sym, ◌∙◌, subst, arith, inl, inr}
-use Rattle.std.proofs.lemmas.Bool.{eq-eqb, eqb-true, eqb-false}
-use Rattle.std.proofs.Common.{get_or-set_same, get_or-set_other}
+use Rattle.std.proofs.Common.{◌≡◌, ℕ, ◌<◌, Bool, true, false, List, [], ◌∷◌, ◌==◌, if◌then◌else◌, refl, ap, sym, ◌∙◌, subst, arith}
+use Rattle.std.proofs.lemmas.Bool.{eq-eqb}
 use Rattle.ak_core.specs.Layout.{Layout}
-use Rattle.ak_core.specs.declared.page.Entry.{Entry}
-use Rattle.ak_core.specs.declared.registers.Regs.{Regs}
-use Rattle.ak_epcm.specs.Entries.{entry_at}
-use Rattle.ak_model.specs.Paging.Holdings.{Mapping}
-use Rattle.ak_model.specs.Paging.Pages.{all_pages, tcs_page, ssa_page}
 use Rattle.ak_pte.specs.declared.table.Pte.{Pte}
 use Rattle.ak_tlb.specs.Fills.{HoldsFills}
 use Rattle.ak_track.proofs.Places.{counted_more}
 use Rattle.ak_track.specs.Steps.{TrackStep, EntersBy, LeavesBy, inside_by, inside_after}
-use Rattle.ak_track.specs.Tracking.{Marks, HoldsSteps, StampOf}
+use Rattle.ak_track.specs.Tracking.{Marks, StampOf}
 use Rattle.ak_track.specs.declared.track.Stamp.{Stamp}
 use Rattle.ak_relation.specs.State.MachineState.{State, Processor}
-use Rattle.ak_encls.specs.Enclave.{Enclave, blank_page, frame_at, stamp_at}
+use Rattle.ak_encls.specs.Enclave.{Enclave, frame_at, stamp_at}
 use Rattle.ak_encls.specs.Paging.{IsPaging}
-use Rattle.ak_enclu.specs.EnterAnswers.{pte_at}
-use Rattle.ak_enclu.specs.Machines.{IsProcessor, IsMachine, LeadsToWhere, mapping_of}
+use Rattle.ak_enclu.specs.Machines.{IsProcessor, IsMachine}
 use Rattle.ak_enclu.specs.Passing.{Steps}
 use Rattle.ak_enclu.specs.declared.cpu.Cpu.{Cpu}
 

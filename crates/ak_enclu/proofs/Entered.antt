@@ -1,5 +1,5 @@
 -- What an entering or a resuming does to a machine.
-use Rattle.std.proofs.Common.{◌≡◌, ℕ, ◌+◌, ◌-◌, ◌*◌, ◌<◌, ◌≤◌, Bool, true, false, List, [], ◌∷◌, length, set, ◌==◌, if◌then◌else◌, refl, ap, sym, ◌∙◌, subst, arith, get_or-set_same, get_or-set_other}
+use Rattle.std.proofs.Common.{◌≡◌, ℕ, ◌+◌, ◌-◌, ◌*◌, ◌<◌, ◌≤◌, Bool, true, false, List, [], length, set, ◌==◌, refl, ap, sym, ◌∙◌, subst, arith, get_or-set_same, get_or-set_other}
 use Rattle.std.proofs.lemmas.Bool.{eqb-false, eqb-true}
 use Rattle.ak_core.specs.Layout.{Layout}
 use Rattle.ak_core.specs.declared.registers.Regs.{Regs}
@@ -8,7 +8,6 @@ use Rattle.ak_model.specs.Paging.Histories.{History}
 use Rattle.ak_model.specs.Paging.Pages.{all_pages, tcs_page, ssa_page, code_page}
 use Rattle.ak_pte.specs.declared.table.Pte.{Pte}
 use Rattle.ak_ssa.specs.SavedRegisters.{area_regs}
-use Rattle.ak_tlb.specs.Fills.{HoldsFills}
 use Rattle.ak_track.specs.Steps.{EntersBy}
 use Rattle.ak_relation.specs.Bytes.Pages.{IsTcs}
 use Rattle.ak_relation.specs.Premises.Entering.{EntersAt}
@@ -16,7 +15,7 @@ use Rattle.ak_relation.specs.Premises.Resuming.{ResumesAt}
 use Rattle.ak_relation.specs.State.MachineState.{State, Processor}
 use Rattle.ak_relation.specs.State.Tables.{TablesStand}
 use Rattle.ak_encls.specs.Enclave.{Enclave, blank_page, frame_at}
-use Rattle.ak_enclu.specs.EnterAnswers.{pte_at, area_page, held_at}
+use Rattle.ak_enclu.specs.EnterAnswers.{pte_at, held_at}
 use Rattle.ak_enclu.specs.Machines.{IsProcessor, IsMachine, LeadsToWhere}
 use Rattle.ak_enclu.specs.Passing.{tcs_at, inside_with, EntersTo}
 use Rattle.ak_enclu.specs.Processors.{entry_regs_at}

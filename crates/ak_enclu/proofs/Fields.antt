@@ -1,10 +1,10 @@
 -- Numbers in the bytes of a TCS.
-use Rattle.std.proofs.Common.{◌≡◌, ℕ, zero, suc, ◌+◌, ◌<◌, ◌≤◌, Bool, true, false, List, [], ◌∷◌, ◌++◌, length, take, drop, set, refl, ap, sym, ◌∙◌, subst, arith, length-drop, length-append, length-set}
+use Rattle.std.proofs.Common.{◌≡◌, ℕ, zero, suc, ◌+◌, ◌<◌, ◌≤◌, Bool, true, List, [], ◌∷◌, ◌++◌, length, take, drop, set, refl, ap, sym, ◌∙◌, subst, arith, length-drop, length-append, length-set}
 use Rattle.std.proofs.lemmas.List.{drop_all, take_all, drop_at, drop-drop, append-nil, append_assoc, take-take, length-take-le}
 use Rattle.std.specs.Prelude.{◌||◌}
 use borrow.Rule.Slice.PartMut.{put_mid}
 use Rattle.byteorder.specs.Endian.{little_bytes, little_number}
-use Rattle.ak_model.specs.Flat.Instructions.{le_bytes, le_value, number_at}
+use Rattle.ak_model.specs.Flat.Instructions.{le_bytes, le_value}
 use Rattle.ak_ssa.proofs.Words.{number, bytes-4}
 use Rattle.ak_ssa.proofs.RegistersReturn.{value_back}
 use Rattle.ak_ssa.specs.declared.cause.Why.{Why}

@@ -1,5 +1,5 @@
 -- What an asynchronous exit or EEXIT does to a machine.
-use Rattle.std.proofs.Common.{◌≡◌, ℕ, ◌+◌, ◌≤◌, Bool, true, false, List, [], ◌∷◌, length, take, drop, ◌==◌, refl, ap, sym, ◌∙◌, subst}
+use Rattle.std.proofs.Common.{◌≡◌, ℕ, ◌+◌, ◌≤◌, Bool, true, false, List, [], length, take, drop, ◌==◌, refl, ap, sym, ◌∙◌, subst}
 use Rattle.std.proofs.lemmas.Bool.{eqb-true}
 use Rattle.std.specs.Prelude.{◌||◌}
 use Rattle.ak_core.specs.Layout.{Layout}
@@ -20,7 +20,7 @@ use Rattle.ak_relation.specs.State.Tables.{TablesStand}
 use Rattle.ak_encls.specs.Enclave.{Enclave, frame_at}
 use Rattle.ak_enclu.specs.Machines.{IsProcessor, IsMachine, LeadsToWhere}
 use Rattle.ak_enclu.specs.Passing.{outside_now, ExitsTo, Steps}
-use Rattle.ak_enclu.specs.TcsBytes.{refuses, after_exit}
+use Rattle.ak_enclu.specs.TcsBytes.{refuses}
 use Rattle.ak_enclu.specs.declared.cpu.Cpu.{Cpu}
 use Rattle.ak_enclu.proofs.Changes.{moved, processor_there, processor_other, leaves_by, moved_machine, nothing_cached}
 use Rattle.ak_enclu.proofs.Fields.{exited, exited_size}

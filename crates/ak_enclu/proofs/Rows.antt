@@ -1,5 +1,5 @@
 -- The answers are the rows over a machine's own tables.
-use Rattle.std.proofs.Common.{◌≡◌, ℕ, zero, suc, ◌+◌, ◌-◌, ◌<◌, ◌≤◌, Bool, true, false, not, ◌&&◌, List, length, ◌==◌, if◌then◌else◌, refl, ap, sym, ◌∙◌, subst, arith}
+use Rattle.std.proofs.Common.{◌≡◌, ℕ, zero, suc, ◌-◌, ◌<◌, ◌≤◌, Bool, true, false, not, ◌&&◌, List, ◌==◌, if◌then◌else◌, refl, ap, sym, ◌∙◌, subst, arith}
 use Rattle.std.proofs.lemmas.Bool.{lt-ltb, ne_eqb}
 use Rattle.std.specs.Prelude.{nat_lt}
 use Rattle.std.specs.List.{list_any}
@@ -22,8 +22,8 @@ use Rattle.ak_relation.proofs.Entering.EnterAnswers.{walk_same, tcs_same}
 use Rattle.ak_relation.specs.Premises.EnterRows.{walk_in, tcs_in, tcs_bytes, enter_row, resume_row}
 use Rattle.ak_relation.specs.State.MachineState.{State}
 use Rattle.ak_relation.specs.State.Tables.{TablesStand}
-use Rattle.ak_encls.specs.Enclave.{Enclave, frame_at}
-use Rattle.ak_enclu.specs.EnterAnswers.{pte_at, finds_tcs, finds_area, area_page, unless_outside, enter_area, resume_area, enter_answer, resume_answer}
+use Rattle.ak_encls.specs.Enclave.{Enclave}
+use Rattle.ak_enclu.specs.EnterAnswers.{pte_at, finds_tcs, finds_area, area_page, unless_outside, enter_answer, resume_answer}
 use Rattle.ak_enclu.specs.Machines.{mapping_of, IsMachine}
 use Rattle.ak_enclu.specs.Passing.{tcs_at}
 use Rattle.ak_enclu.specs.TcsBytes.{saved_of, pending_of}
