@@ -1,7 +1,7 @@
 -- What slots hold after an entry or the bytes of a frame changed.
 use Rattle.std.proofs.Common.{◌≡◌, ◌≢◌, ◌⊎◌, inl, inr, ℕ, zero, suc, ◌*◌, ◌<◌, Bool, true, false, ◌&&◌, ◌==◌, if◌then◌else◌, List, [], ◌∷◌, length, get_or, set, arith, refl, ap, sym, ◌∙◌, get_or-set_same, get_or-set_other}
-use Rattle.std.specs.Prelude.{nat_lt, Option, None}
-use Rattle.std.proofs.lemmas.Bool.{eqb-false, cases_lt, false≢true}
+use Rattle.std.specs.Prelude.{nat_lt, None}
+use Rattle.std.proofs.lemmas.Bool.{cases_lt, false≢true}
 use Rattle.std.proofs.lemmas.Bool.Decides.{eqb_tells}
 use Rattle.std.proofs.Math.ListN.{get_or-eq_default}
 use Rattle.ak_core.specs.declared.page.Entry.{Entry}
@@ -30,6 +30,16 @@ read_any [] k d e within = absurd (omega arith)
 -- a frame of the page cache has the bytes that are read there
 pub frame_read : (frames : List (List ℕ)) (f : ℕ) (d : List ℕ) → f < length frames → get_or frames f d ≡ frame_at frames f
 frame_read frames f d within = read_any frames f d blank_page within
+
+-- each frame is as long as it was, where the bytes that were written are
+pub lengths_stay : (frames : List (List ℕ)) (f : ℕ) (bytes old : List ℕ) → f < length frames → old ≡ frame_at frames f → length bytes ≡ length old →
+    (g : ℕ) → length (frame_at (set frames f bytes) g) ≡ length (frame_at frames g)
+lengths_stay frames f bytes old within read same g =
+    elim (eqb_tells g f) [
+      | inl here ↦ ap (λ k. length (frame_at (set frames f bytes) k)) here.1 ∙ ap length (frame_same frames f bytes within) ∙ same ∙ ap length read
+          ∙ ap (λ k. length (frame_at frames k)) (sym here.1)
+      | inr other ↦ ap length (frame_other frames f g bytes other.1)
+    ]
 
 pub entry_same : (entries : List Entry) (f : ℕ) (entry : Entry) → f < length entries → entry_at (set entries f entry) f ≡ entry
 entry_same entries f entry within = get_or-set_same entries f entry free_entry within
@@ -107,14 +117,17 @@ pub rewritten_slot : (entries : List Entry) (frames : List (List ℕ)) (va i v :
 rewritten_slot entries frames va i v bytes within slot is others wa j =
     elim (eqb_tells wa va) [
       | inl same ↦ elim (eqb_tells j i) [
-          | inl here ↦ inl (same.1, here.1,
-              ap (λ g. slot_in entries (set frames va bytes) g j) same.1 ∙ ap (λ k. slot_in entries (set frames va bytes) va k) here.1
+        | inl here ↦ inl (
+          same.1,
+          here.1,
+          ap (λ g. slot_in entries (set frames va bytes) g j) same.1 ∙ ap (λ k. slot_in entries (set frames va bytes) va k) here.1
               ∙ ap (λ b. slot_by (entry_at entries va) b i) (frame_same frames va bytes within)
-              ∙ ap (λ b. if b then handle_in (number_at bytes (8 * i) 8) else None) slot ∙ ap handle_in is)
-          | inr away ↦ inr (ap (λ g. slot_in entries (set frames va bytes) g j) same.1
-              ∙ ap (λ b. slot_by (entry_at entries va) b j) (frame_same frames va bytes within)
-              ∙ ap (λ n. if is_slot (entry_at entries va) j then handle_in n else None) (others j away.0)
-              ∙ ap (λ g. slot_in entries frames g j) (sym same.1))
-        ]
+              ∙ ap (λ b. if b then handle_in (number_at bytes (8 * i) 8) else None) slot ∙ ap handle_in is,
+        )
+        | inr away ↦ inr (ap (λ g. slot_in entries (set frames va bytes) g j) same.1
+            ∙ ap (λ b. slot_by (entry_at entries va) b j) (frame_same frames va bytes within)
+            ∙ ap (λ n. if is_slot (entry_at entries va) j then handle_in n else None) (others j away.0)
+            ∙ ap (λ g. slot_in entries frames g j) (sym same.1))
+      ]
       | inr other ↦ inr (ap (λ b. slot_by (entry_at entries wa) b j) (frame_other frames va wa bytes other.1))
     ]

@@ -1,17 +1,21 @@
 -- Each change keeps an enclave sound.
-use Rattle.std.proofs.Common.{◌≡◌, ◌≢◌, ◌⊎◌, inl, inr, ℕ, zero, suc, ◌+◌, ◌-◌, ◌*◌, ◌<◌, ◌≤◌, Bool, true, false, ◌&&◌, ◌==◌, if◌then◌else◌, List, [], ◌∷◌, length, set, take, drop, replicate, refl, ap, sym, ◌∙◌, subst, arith, length-set}
+use Rattle.std.proofs.Common.{◌≡◌, ◌≢◌, ◌⊎◌, inl, inr, ℕ, zero, suc, ◌+◌, ◌-◌, ◌*◌, ◌<◌, Bool, true, false, ◌&&◌, ◌==◌, if◌then◌else◌, List, length, set, take, drop, replicate, refl, ap, sym, ◌∙◌, subst, arith, length-set}
 use Rattle.std.specs.Prelude.{nat_lt, Option, Some, None}
 use Rattle.std.specs.Option.{option_map}
 use Rattle.std.proofs.lemmas.Bool.{false≢true, ltb-true}
 use Rattle.std.proofs.lemmas.Bool.Decides.{eqb_tells}
 use Rattle.ak_core.specs.declared.page.Entry.{Entry}
+use Rattle.ak_core.specs.declared.page.Page.{Page}
+use Rattle.ak_core.specs.declared.page.PageType.{PageType}
+use Rattle.ak_core.specs.declared.page.PageType.TheVariants.{Secs, Tcs, Reg, Va}
+use Rattle.ak_core.specs.declared.page.Perm.{Perm}
 use Rattle.ak_epcm.specs.Entries.{free_entry, entry_at, is_addressed, is_of_page, has_page, HasNoFrame, HasDistinctPages}
 use Rattle.ak_model.specs.Flat.Instructions.{le_value, number_at}
 use Rattle.ak_sealed.specs.SealedPages.{SealedPage, Handles, sealed_page_of, entry_of, sealed_page_at, version, handle_in}
 use Rattle.ak_track.specs.declared.track.Stamp.{Stamp}
 use Rattle.ak_encls.specs.Enclave.{frame_at}
-use Rattle.ak_encls.specs.Sound.{is_va_type, is_slot, slot_by, slot_in, sealed_in, page_in, AreVersions, IsSound}
-use Rattle.ak_encls.specs.Building.{va_entry, IsNotSealed}
+use Rattle.ak_encls.specs.Sound.{is_va_type, is_slot, slot_by, slot_in, sealed_in, page_in, IsSound}
+use Rattle.ak_encls.specs.Building.{va_entry, added_entry, IsNotSealed}
 use Rattle.ak_encls.proofs.SlotChanges.{frame_same, frame_other, entry_same, entry_other, valid_within, page_no_slot, emptied, rewritten, blocked_slot, rewritten_slot}
 use Rattle.ak_encls.proofs.Versions.{fewer, page_was, written}
 
@@ -190,9 +194,22 @@ module _ (entries : List Entry) (frames : Frames) (stamps : List Stamp) (handles
       set_sound f entry bytes within (λ i. page_no_slot entry bytes i page)
       (λ va i p e. other_page entry p (not_sealed (slot_in (set entries f entry) (set frames f bytes)) entry.page.0 fresh va i p e))
 
+-- an added page is one of the enclave, and the named one
+pub added_of_page : (p : Page) (kind : PageType) (perm : Perm) → is_addressed kind ≡ true → is_of_page (added_entry p kind perm) ≡ true
+added_of_page p Reg perm e = refl
+added_of_page p Tcs perm e = refl
+added_of_page p Secs perm e = absurd (cc)
+added_of_page p Va perm e = absurd (cc)
+
+pub added_page : (p : Page) (kind : PageType) (perm : Perm) → (added_entry p kind perm).page.0 ≡ p.0
+added_page p Reg perm = refl
+added_page p Tcs perm = refl
+added_page p Secs perm = refl
+added_page p Va perm = refl
+
 -- ---- A VA page
 
-zero_value : (n k m : ℕ) → le_value (take n (drop k (replicate m 0))) ≡ 0
+pub zero_value : (n k m : ℕ) → le_value (take n (drop k (replicate m 0))) ≡ 0
 zero_value zero k m = refl
 zero_value (suc n) zero zero = refl
 zero_value (suc n) (suc k) zero = refl
@@ -208,7 +225,7 @@ blank_slot m i = ap (λ v. if is_slot va_entry i then handle_in v else None) (ze
 
 -- ---- A page is loaded
 
-some_in : (o : Option SealedPage) (blocked : Bool) (entry : Entry) → option_map (λ s. entry_of s blocked) o ≡ Some entry → (s : SealedPage) × ((o ≡ Some s) × (entry_of s blocked ≡ entry))
+pub some_in : (o : Option SealedPage) (blocked : Bool) (entry : Entry) → option_map (λ s. entry_of s blocked) o ≡ Some entry → (s : SealedPage) × ((o ≡ Some s) × (entry_of s blocked ≡ entry))
 some_in None blocked entry e = absurd (let wrong : None ≡ Some entry = e in cc)
 some_in (Some s) blocked entry e = (s, (refl, by e))
   where
@@ -262,9 +279,9 @@ module _ (entries : List Entry) (frames : Frames) (stamps : List Stamp) (handles
       elim (after_write wa j) [
         | inl new ↦ inr new.2
         | inr same ↦ elim (before_write wa j) [
-            | inl old ↦ inl (same ∙ old)
-            | inr none ↦ inr (same ∙ none)
-          ]
+          | inl old ↦ inl (same ∙ old)
+          | inr none ↦ inr (same ∙ none)
+        ]
       ]
 
   emptied_slot : slot_in (set entries f entry) (set Frames' va slots) va i ≡ None
@@ -333,9 +350,9 @@ seal_sound entries frames stamps handles handles' sound distinct f va i entry by
           (λ wa j.
           elim (emptied entries (set frames va slots) (set frames va slots) f free_entry within (λ g away. refl) (λ k. refl) wa j) [
             | inl kept ↦ elim (rewritten_slot entries frames va i (version (Some (length handles.sealed_pages))) slots frame_in slot versioned others wa j) [
-                | inl new ↦ inl (new.0, new.1, kept ∙ new.2 ∙ handle_back (length handles.sealed_pages))
-                | inr old ↦ inr (inl (kept ∙ old))
-              ]
+              | inl new ↦ inl (new.0, new.1, kept ∙ new.2 ∙ handle_back (length handles.sealed_pages))
+              | inr old ↦ inr (inl (kept ∙ old))
+            ]
             | inr none ↦ inr (inr none)
           ])
           put next held (page_type entry.valid (is_addressed entry.kind) of_page).1

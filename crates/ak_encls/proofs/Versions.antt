@@ -1,5 +1,5 @@
 -- Versions stay those of pages with one live copy.
-use Rattle.std.proofs.Common.{◌≡◌, ◌≢◌, ◌⊎◌, inl, inr, ℕ, ◌+◌, ◌<◌, ◌≤◌, Bool, true, false, ◌==◌, if◌then◌else◌, List, length, refl, ap, sym, ◌∙◌, subst, arith}
+use Rattle.std.proofs.Common.{◌≡◌, ◌⊎◌, inl, inr, ℕ, ◌+◌, ◌<◌, ◌≤◌, true, ◌==◌, if◌then◌else◌, List, length, refl, ap, sym, ◌∙◌, subst, arith}
 use Rattle.std.specs.Prelude.{Option, Some, None}
 use Rattle.std.specs.Option.{option_map}
 use Rattle.std.proofs.lemmas.Bool.{false≢true}
@@ -92,9 +92,9 @@ module _ (slots slots' : Slots) (handles handles' : Handles) (entries entries' :
       elim (slot wa j) [
         | inl new ↦ inl (new.0, new.1, same_some p sealed_page.page (sym e ∙ ap (λ o. option_map (λ (s : SealedPage). s.page) (sealed_in handles' o)) new.2 ∙ ap (option_map (λ (s : SealedPage). s.page)) new_page))
         | inr old ↦ elim old [
-            | inl same ↦ inr (old_in wa j p (slots wa j) refl (ap (λ o. option_map (λ (s : SealedPage). s.page) (sealed_in handles' o)) (sym same) ∙ e))
-            | inr none ↦ none_some p (ap (λ o. option_map (λ (s : SealedPage). s.page) (sealed_in handles' o)) (sym none) ∙ e) _
-          ]
+          | inl same ↦ inr (old_in wa j p (slots wa j) refl (ap (λ o. option_map (λ (s : SealedPage). s.page) (sealed_in handles' o)) (sym same) ∙ e))
+          | inr none ↦ none_some p (ap (λ o. option_map (λ (s : SealedPage). s.page) (sealed_in handles' o)) (sym none) ∙ e) _
+        ]
       ]
 
   clash : (wa j p : ℕ) → p ≡ sealed_page.page → page_in slots handles wa j ≡ Some p → (A : Type 0) → A
@@ -114,9 +114,9 @@ module _ (slots slots' : Slots) (handles handles' : Handles) (entries entries' :
         elim (slot wa j) [
           | inl new ↦ let is = same_some k (length handles.sealed_pages) (sym e ∙ new.2) in omega arith
           | inr old ↦ elim old [
-              | inl same ↦ let lt = h.given wa j k (sym same ∙ e) in omega arith
-              | inr none ↦ none_some k (sym none ∙ e) _
-            ]
+            | inl same ↦ let lt = h.given wa j k (sym same ∙ e) in omega arith
+            | inr none ↦ none_some k (sym none ∙ e) _
+          ]
         ];
     away = λ wa j p e.
         elim (told wa j p e) [
@@ -126,13 +126,13 @@ module _ (slots slots' : Slots) (handles handles' : Handles) (entries entries' :
     apart = λ wa j wa' j' p e d.
         elim (told wa j p e) [
           | inl new ↦ elim (told wa' j' p d) [
-              | inl also ↦ (new.0 ∙ sym also.0, new.1 ∙ sym also.1)
-              | inr old ↦ clash wa' j' p new.2 old _
-            ]
+            | inl also ↦ (new.0 ∙ sym also.0, new.1 ∙ sym also.1)
+            | inr old ↦ clash wa' j' p new.2 old _
+          ]
           | inr old ↦ elim (told wa' j' p d) [
-              | inl new ↦ clash wa j p new.2 old _
-              | inr also ↦ h.apart wa j wa' j' p old also
-            ]
+            | inl new ↦ clash wa j p new.2 old _
+            | inr also ↦ h.apart wa j wa' j' p old also
+          ]
         ];
     addressed = λ k page e.
         elim (eqb_tells k (length handles.sealed_pages)) [

@@ -6,7 +6,7 @@ use Rattle.ak_core.specs.declared.page.Page.{Page}
 use Rattle.ak_core.specs.declared.page.Perm.{Perm}
 use Rattle.ak_core.specs.declared.page.Perm.TheVariants.{R, Rw, Rx}
 use Rattle.ak_core.specs.declared.page.PageType.{PageType}
-use Rattle.ak_core.specs.declared.page.PageType.TheVariants.{Secs, Tcs, Reg, Va}
+use Rattle.ak_core.specs.declared.page.PageType.TheVariants.{Secs, Reg, Va}
 use Rattle.ak_sealed.specs.SealedPages.{Handles, sealed_page_at}
 use Rattle.ak_track.specs.Steps.{Cycled}
 use Rattle.ak_track.specs.Tracking.{Marks, HoldsSteps}

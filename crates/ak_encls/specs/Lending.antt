@@ -1,7 +1,6 @@
 -- What a lent frame leaves.
 use Rattle.std.specs.Prelude.{ℕ, List, slice_set}
 use Rattle.std.specs.Borrow.{Lends, MutBor, Fml, Array, u8}
-use Rattle.ak_encls.specs.Enclave.{Enclave}
 use Rattle.ak_encls.specs.declared.encls.Encls.{Encls}
 use Rattle.ak_encls.specs.contracts.encls.Encls.{the_row}
 

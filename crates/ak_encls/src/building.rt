@@ -18,7 +18,7 @@ use ak_core::{Entry, Frame, Handle, OutOfMemory, PAGE_SIZE, Page, PageType, Perm
 use ak_epcm::Epcm;
 use ak_measure::{Measure, Signers, secinfo};
 use ak_sealed::Sealed;
-use ak_track::Track;
+use ak_track::{Incomplete, Track};
 use std::alloc::Global;
 
 /// Why EINIT refuses an enclave.
@@ -43,9 +43,6 @@ const SECS: Entry = Entry {
 
 /// The bytes of a chunk, which EEXTEND measures.
 const CHUNK_SIZE: usize = 256;
-
-/// The chunks of a page.
-const CHUNKS: u8 = 16;
 
 impl Encls {
     /// An enclave of this size with so many frames of zeros, 1 at least, and processors, 4 at most (SDM volume 3D, ECREATE): the SECS
@@ -92,8 +89,7 @@ impl Encls {
             → HasAbsorbed self.new.measure (absorbed ++ add_block (4096 * p.0) (flags_of kind perm)) }
         ensures rest { self.new ≡ record self.old { entries = self.new.entries; frames = self.new.frames; measure = self.new.measure } }
     {
-        self.frames[f.0 as usize] = *bytes;
-        self.epcm.set(f, added(p, kind, perm));
+        self.put_page(f, added(p, kind, perm), bytes);
         self.measure.add(offset_of(p), secinfo(kind, perm));
     }
 
@@ -108,11 +104,19 @@ impl Encls {
         let start = CHUNK_SIZE * usize::from(chunk);
         let offset = offset_of(self.epcm.entry(f).page) + start as u64;
         let page = &self.frames[f.0 as usize];
-        self.measure.extend(offset, &page[start..start + CHUNK_SIZE]);
+        self.measure
+            .extend(offset, &page[start..start + CHUNK_SIZE]);
     }
 
     /// Adds a page and measures it whole: EADD, and EEXTEND of its 16 chunks.
-    pub fn add_page(&mut self, f: Frame, p: Page, kind: PageType, perm: Perm, bytes: &[u8; PAGE_SIZE])
+    pub fn add_page(
+        &mut self,
+        f: Frame,
+        p: Page,
+        kind: PageType,
+        perm: Perm,
+        bytes: &[u8; PAGE_SIZE],
+    )
         requires within { f.0 < length self.old.entries }
         requires free { (entry_at self.old.entries f.0).valid ≡ false }
         requires kind { is_addressed kind ≡ true }
@@ -120,19 +124,27 @@ impl Encls {
         requires not_sealed { IsNotSealed self.old.handles p.0 }
         ensures entries { self.new.entries ≡ slice_set self.old.entries f.0 (added_entry p kind perm) }
         ensures frames { self.new.frames ≡ slice_set self.old.frames f.0 bytes.now }
+        ensures in_frames { f.0 < length self.old.frames }
         ensures measure { (absorbed : List ℕ) → HasAbsorbed self.old.measure absorbed
             → HasAbsorbed self.new.measure (absorbed ++ page_blocks (4096 * p.0) (flags_of kind perm) bytes.now) }
         ensures rest { self.new ≡ record self.old { entries = self.new.entries; frames = self.new.frames; measure = self.new.measure } }
     {
-        self.eadd(f, p, kind, perm, bytes);
-        for chunk in 0..CHUNKS {
-            self.eextend(f, chunk);
-        }
+        self.put_page(f, added(p, kind, perm), bytes);
+        self.measure
+            .add_page(offset_of(p), secinfo(kind, perm), bytes);
     }
 
     /// Adds a regular page, measures it whole, and writes it out, as the build does with each page of the program: through a free
     /// frame, and into an empty slot of a VA page. Nobody entered yet. It gives the page's handle.
-    pub fn add_sealed_page(&mut self, f: Frame, p: Page, perm: Perm, bytes: &[u8; PAGE_SIZE], va: Frame, i: u16) -> Handle
+    pub fn add_sealed_page(
+        &mut self,
+        f: Frame,
+        p: Page,
+        perm: Perm,
+        bytes: &[u8; PAGE_SIZE],
+        va: Frame,
+        i: u16,
+    ) -> Handle
         requires within { f.0 < length self.old.entries }
         requires free { (entry_at self.old.entries f.0).valid ≡ false }
         requires no_frame { HasNoFrame self.old.entries p.0 }
@@ -156,14 +168,12 @@ impl Encls {
         ensures lps { self.new.track.lps ≡ self.old.track.lps }
         ensures measure { (absorbed : List ℕ) → HasAbsorbed self.old.measure absorbed
             → HasAbsorbed self.new.measure (absorbed ++ page_blocks (4096 * p.0) (flags_of PageType.Reg perm) bytes.now) }
-        ensures rest { self.new ≡ record self.new { stamps = self.old.stamps } }
+        ensures stamps { self.new.stamps ≡ self.old.stamps }
         ensures count { length self.new.frames ≡ length self.old.frames }
     {
         self.add_page(f, p, PageType::Reg, perm, bytes);
-        // nobody is inside, so that the cycle is over at once, and the page can be written out
-        let Ok(()) = self.track.cycle() else {
-            unreachable!();
-        };
+        // the cycle is over at once, and the page can be written out
+        self.cycle_alone();
         self.seal_into(f, va, i)
     }
 
@@ -180,6 +190,37 @@ impl Encls {
             return Err(InitFault::MeasurementNotSigned);
         }
         Ok(())
+    }
+
+    // Puts a page into a free frame.
+    fn put_page(&mut self, f: Frame, entry: Entry, bytes: &[u8; PAGE_SIZE])
+        requires within { f.0 < length self.old.entries }
+        requires free { (entry_at self.old.entries f.0).valid ≡ false }
+        requires page { is_of_page entry ≡ true }
+        requires no_frame { HasNoFrame self.old.entries entry.page.0 }
+        requires not_sealed { IsNotSealed self.old.handles entry.page.0 }
+        ensures entries { self.new.entries ≡ slice_set self.old.entries f.0 entry }
+        ensures frames { self.new.frames ≡ slice_set self.old.frames f.0 bytes.now }
+        ensures in_frames { f.0 < length self.old.frames }
+        ensures rest { self.new ≡ record self.old { entries = self.new.entries; frames = self.new.frames } }
+    {
+        self.frames[f.0 as usize] = *bytes;
+        self.epcm.set(f, entry);
+    }
+
+    // Begins a cycle that waits for nobody, since nobody has entered.
+    fn cycle_alone(&mut self)
+        requires unentered { HasOnlyCycled self.old.track }
+        requires cycles { self.old.track.cycles < 2 ^ 63 }
+        ensures unentered { HasOnlyCycled self.new.track }
+        ensures cycles { self.new.track.cycles ≡ self.old.track.cycles + 1 }
+        ensures lps { self.new.track.lps ≡ self.old.track.lps }
+        ensures rest { self.new ≡ record self.old { track = self.new.track } }
+    {
+        match self.track.cycle() {
+            Ok(()) => {}
+            Err(Incomplete) => unreachable!(),
+        }
     }
 }
 

@@ -35,16 +35,17 @@ impl Encls {
         ensures kind { IsOutcome result }
     {
         self.check_free(f)?;
-        self.set_va(f);
+        self.add_va(f);
         Ok(Answer::Ok)
     }
 
-    // A free frame is a VA page of zeros.
-    fn set_va(&mut self, f: Frame)
+    /// Makes a VA page of zeros of a free frame, as the build does, and EPA where it is not refused.
+    pub fn add_va(&mut self, f: Frame)
         requires within { f.0 < length self.old.entries }
         requires free { (entry_at self.old.entries f.0).valid ≡ false }
         ensures entries { self.new.entries ≡ slice_set self.old.entries f.0 va_entry }
         ensures frames { self.new.frames ≡ slice_set self.old.frames f.0 (replicate (length (frame_at self.old.frames f.0)) 0) }
+        ensures each_frame { f.0 < length self.old.frames }
         ensures rest { self.new ≡ record self.old { entries = self.new.entries; frames = self.new.frames } }
     {
         fill_zeros(&mut self.frames[f.0 as usize]);

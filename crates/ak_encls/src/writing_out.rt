@@ -1,15 +1,18 @@
 // EWB.
-ghost use Rattle.std.specs.Prelude.{◌≡◌, ℕ, ◌+◌, ◌*◌, ◌<◌, ◌==◌, if◌then◌else◌, true, false, Some, length, slice_set, OnOk, OnErr};
+ghost use Rattle.std.specs.Prelude.{◌≡◌, ℕ, ◌+◌, ◌*◌, ◌<◌, ◌==◌, if◌then◌else◌, true, false, Some, List, length, slice_set, IfOk, IfErr, OnOk, OnErr};
 ghost use Rattle.ak_core.specs.Layout.{Layout};
 ghost use Rattle.ak_core.specs.declared.moves.Move.TheVariants.{Ewb};
 ghost use Rattle.ak_model.specs.Control.LeafRows.{write_out_row};
+ghost use Rattle.ak_model.specs.Kernels.Repeats.{is_done};
 ghost use Rattle.ak_relation.specs.State.MachineState.{State};
 ghost use Rattle.ak_relation.specs.State.MachineView.{view_in};
-ghost use Rattle.ak_encls.specs.Answering.{answer_in, IsOutcome, KeepsRest};
+ghost use Rattle.ak_encls.specs.Answering.{answer_in, IsOutcome, KeepsRest, unless};
 ghost use Rattle.ak_model.specs.Flat.Instructions.{number_at};
 ghost use Rattle.ak_epcm.specs.Entries.{entry_at, free_entry, is_of_page};
+ghost use Rattle.ak_track.specs.Steps.{TrackStep, tracked_by};
+ghost use Rattle.ak_track.specs.Tracking.{HoldsSteps, StampOf};
 ghost use Rattle.ak_sealed.specs.SealedPages.{sealed_page_at, sealed_page_of};
-ghost use Rattle.ak_encls.specs.Enclave.{frame_at};
+ghost use Rattle.ak_encls.specs.Enclave.{frame_at, stamp_at};
 ghost use Rattle.ak_encls.specs.Paging.{IsPaging, LeadsTo};
 ghost use Rattle.ak_encls.specs.Sound.{is_slot};
 
@@ -28,18 +31,39 @@ impl Encls {
         ensures rest { KeepsRest self.old self.new (answer_in result) }
         ensures kind { IsOutcome result }
     {
-        let entry = self.page_entry(f)?;
-        if !entry.blocked {
-            return Err(Answer::NotBlocked);
-        }
-        if !self.track.tracked(self.stamps[f.0 as usize]) {
-            return Err(Answer::NotTracked);
-        }
-        if self.slot_of(va, i)?.is_some() {
-            return Err(Answer::SlotOccupied);
-        }
+        self.check_write_out(f, va, i)?;
         let handle = self.seal_into(f, va, i);
         Ok(Answer::OkHandle(handle))
+    }
+
+    // EWB may write the frame out into the slot.
+    fn check_write_out(&self, f: Frame, va: Frame, i: u16) -> Result<(), Answer>
+        ensures row { (layout : Layout) (state : State) → IsPaging layout self.now state
+            → write_out_row (view_in layout state) f.0 va.0 i ≡ unless result (Answer.OkHandle (record { 0 = length self.now.handles.sealed_pages })) }
+        ensures page { IfOk result (λ _. is_of_page (entry_at self.now.entries f.0) ≡ true) }
+        ensures slot { IfOk result (λ _. is_slot (entry_at self.now.entries va.0) i ≡ true) }
+        ensures within { IfOk result (λ _. f.0 < length self.now.entries) }
+        ensures refusal { IfErr result (λ refusal. is_done refusal ≡ false) }
+    {
+        if !self.page_entry(f)?.blocked {
+            return Err(Answer::NotBlocked);
+        }
+        if !self.is_tracked(f) {
+            return Err(Answer::NotTracked);
+        }
+        match self.slot_of(va, i)? {
+            Some(_) => Err(Answer::SlotOccupied),
+            None => Ok(()),
+        }
+    }
+
+    // A cycle that began after the frame was stamped is over.
+    fn is_tracked(&self, f: Frame) -> bool
+        requires { f.0 < length self.now.entries }
+        ensures { (lps : ℕ) (steps : List TrackStep) (place : ℕ) → HoldsSteps self.now.track lps steps
+            → StampOf (stamp_at self.now.stamps f.0) lps steps place → result ≡ tracked_by lps steps (Some place) }
+    {
+        self.track.tracked(self.stamps[f.0 as usize])
     }
 
     /// Seals the page of a frame under the next handle, whose version comes into an empty slot of a VA page. The frame is free then.

@@ -1,5 +1,7 @@
 // An enclave of three program pages, and scripts of leaves.
-ghost use Rattle.std.specs.Prelude.{◌≡◌, ◌+◌, ◌^◌, ◌<◌, ◌≤◌, length};
+ghost use Rattle.std.specs.Prelude.{◌≡◌, ℕ, ◌+◌, ◌^◌, ◌<◌, ◌≤◌, ◌==◌, true, false, length, IfOk};
+ghost use Rattle.ak_epcm.specs.Entries.{is_addressed};
+ghost use Rattle.ak_encls.specs.Building.{IsNotSealed, HasOnlyCycled};
 
 use ak_core::{Answer, Entry, Frame, Handle, Move, PAGE_SIZE, Page, PageType, Perm};
 use ak_encls::Encls;
@@ -8,9 +10,6 @@ use std::test::Fail;
 
 /// A leaf with the answer that is expected.
 pub type Line = (Move, Answer);
-
-/// The permissions of the program's pages. Pages 3 to 8 are the TCS, three saved-state areas, STATE and CODE.
-const PERMS: [Perm; 3] = [Perm::R, Perm::Rw, Perm::Rx];
 
 /// Moves by their numbers.
 pub fn eblock(f: u32) -> Move {
@@ -74,37 +73,177 @@ pub fn tcs(page: u32) -> Entry {
     }
 }
 
-/// Does the leaves of a script. The place of the first that is answered otherwise than expected, and its answer.
-pub fn first_wrong(encls: &mut Encls, script: &[Line]) -> Option<(usize, Answer)> {
+/// Does a leaf, with a spare for it. None where the move is no leaf, or memory runs out.
+fn answer(encls: &mut Encls, m: &Move) -> Option<Answer>
+    requires cycles { encls.old.track.cycles < 2 ^ 63 }
+    requires handles { length encls.old.handles.sealed_pages + 1 < 2 ^ 32 }
+    ensures frames { length encls.new.entries ≡ length encls.old.entries }
+    ensures cycles { encls.new.track.cycles ≤ encls.old.track.cycles + 1 }
+    ensures handles { length encls.new.handles.sealed_pages ≤ length encls.old.handles.sealed_pages + 1 }
+{
+    let Ok(()) = encls.reserve(1) else {
+        return None;
+    };
+    match m {
+        Move::Eblock(_)
+        | Move::Etrack
+        | Move::Ewb(..)
+        | Move::Eldu(..)
+        | Move::Eldb(..)
+        | Move::Eremove(_)
+        | Move::Epa(_)
+        | Move::Discard(_) => Some(encls.leaf(m)),
+        _ => None,
+    }
+}
+
+/// Does the leaves of a script: the place of the first that is answered otherwise than expected.
+pub fn first_wrong(encls: &mut Encls, script: &[Line]) -> Option<usize>
+    requires short { length script.now < 1000 }
+    requires cycles { encls.old.track.cycles < 1000000 }
+    requires handles { length encls.old.handles.sealed_pages < 1000000 }
+    ensures frames { length encls.new.entries ≡ length encls.old.entries }
+    ensures cycles { encls.new.track.cycles ≤ encls.old.track.cycles + 1000 }
+    ensures handles { length encls.new.handles.sealed_pages ≤ length encls.old.handles.sealed_pages + 1000 }
+{
     for (i, (m, expected)) in script.iter().enumerate() {
-        let answer = encls.leaf(m);
-        if answer != *expected {
-            return Some((i, answer));
+        if answer(encls, m) != Some(*expected) {
+            return Some(i);
         }
     }
     None
 }
 
-/// The enclave as the build leaves it: the SECS in frame 0, a VA page in frame 1, pages 3 to 8 in frames 2 to 7, and pages 0 to 2
-/// written out under handles 0 to 2 into slots 0 to 2. Frames 8 and above are free.
-pub fn built(alloc: Global, frames: u32, lps: u8) -> Result<Encls, Fail> {
-    let mut encls = Encls::ecreate(alloc, 65536, frames, lps)?;
-    encls.reserve(64)?;
-    encls.leaf(&epa(1));
-    for p in 0..9u8 {
-        let (f, kind, perm) = match p {
-            0..3 => (8, PageType::Reg, PERMS[usize::from(p)]),
-            3 => (2, PageType::Tcs, Perm::R),
-            8 => (7, PageType::Reg, Perm::Rx),
-            _ => (p - 1, PageType::Reg, Perm::Rw),
-        };
-        let f = Frame(u32::from(f));
-        let page = Page(u32::from(p));
-        if p < 3 {
-            encls.add_sealed_page(f, page, perm, &bytes_of(p), Frame(1), u16::from(p));
-        } else {
-            encls.add_page(f, page, kind, perm, &bytes_of(p));
+/// Adds a page in a frame that is free, where no frame has the page.
+pub fn add(
+    encls: &mut Encls,
+    f: Frame,
+    p: Page,
+    kind: PageType,
+    perm: Perm,
+    bytes: &[u8; PAGE_SIZE],
+) -> Result<(), &'static str>
+    requires within { f.0 < length encls.old.entries }
+    requires kind { is_addressed kind ≡ true }
+    requires not_sealed { IsNotSealed encls.old.handles p.0 }
+    ensures frames { length encls.new.entries ≡ length encls.old.entries }
+    ensures handles { encls.new.handles ≡ encls.old.handles }
+    ensures track { encls.new.track ≡ encls.old.track }
+{
+    if encls.epcm().entry(f).valid {
+        return Err("the frame is in use");
+    }
+    match encls.epcm().frame_of(p) {
+        Some(_) => Err("a frame has the page"),
+        None => {
+            encls.add_page(f, p, kind, perm, bytes);
+            Ok(())
         }
     }
+}
+
+/// Adds a page of the program, through frame 8 into a slot of frame 1.
+pub fn add_sealed(
+    encls: &mut Encls,
+    p: Page,
+    perm: Perm,
+    bytes: &[u8; PAGE_SIZE],
+    slot: u16,
+) -> Result<(), &'static str>
+    requires within { 8 < length encls.old.entries }
+    requires slot { slot < 512 }
+    requires not_sealed { IsNotSealed encls.old.handles p.0 }
+    requires spare { 0 < encls.old.handles.spare }
+    requires unentered { HasOnlyCycled encls.old.track }
+    requires cycles { encls.old.track.cycles < 2 ^ 63 }
+    ensures frames { length encls.new.entries ≡ length encls.old.entries }
+    ensures next { length encls.new.handles.sealed_pages ≤ length encls.old.handles.sealed_pages + 1 }
+    ensures others { (q : ℕ) → IsNotSealed encls.old.handles q → (q == p.0) ≡ false → IsNotSealed encls.new.handles q }
+    ensures spare { encls.old.handles.spare ≤ encls.new.handles.spare + 1 }
+    ensures unentered { HasOnlyCycled encls.new.track }
+    ensures cycles { encls.new.track.cycles ≤ encls.old.track.cycles + 1 }
+{
+    if encls.epcm().entry(Frame(8)).valid {
+        return Err("the frame is in use");
+    }
+    let va = encls.epcm().entry(Frame(1));
+    if !va.valid || va.kind != PageType::Va {
+        return Err("there is no VA page");
+    }
+    match encls.epcm().frame_of(p) {
+        Some(_) => Err("a frame has the page"),
+        None => {
+            encls.add_sealed_page(Frame(8), p, perm, bytes, Frame(1), slot);
+            Ok(())
+        }
+    }
+}
+
+/// The enclave as the build leaves it: the SECS in frame 0, a VA page in frame 1, pages 3 to 8 in frames 2 to 7, and pages 0 to 2
+/// written out under handles 0 to 2 into slots 0 to 2. Frames 8 and above are free.
+pub fn built(alloc: Global, frames: u32, lps: u8) -> Result<Encls, Fail>
+    requires frames { 8 < frames }
+    requires lps { lps ≤ 4 }
+    ensures frames { IfOk result (λ encls. length encls.entries ≡ frames) }
+    ensures cycles { IfOk result (λ encls. encls.track.cycles ≤ 3) }
+    ensures handles { IfOk result (λ encls. length encls.handles.sealed_pages ≤ 3) }
+{
+    let mut encls = Encls::ecreate(alloc, 65536, frames, lps)?;
+    encls.reserve(3)?;
+    if encls.epcm().entry(Frame(1)).valid {
+        return Err(Fail::new("frame 1 is in use"));
+    }
+    encls.add_va(Frame(1));
+    add(
+        &mut encls,
+        Frame(2),
+        Page(3),
+        PageType::Tcs,
+        Perm::R,
+        &bytes_of(3),
+    )?;
+    add(
+        &mut encls,
+        Frame(3),
+        Page(4),
+        PageType::Reg,
+        Perm::Rw,
+        &bytes_of(4),
+    )?;
+    add(
+        &mut encls,
+        Frame(4),
+        Page(5),
+        PageType::Reg,
+        Perm::Rw,
+        &bytes_of(5),
+    )?;
+    add(
+        &mut encls,
+        Frame(5),
+        Page(6),
+        PageType::Reg,
+        Perm::Rw,
+        &bytes_of(6),
+    )?;
+    add(
+        &mut encls,
+        Frame(6),
+        Page(7),
+        PageType::Reg,
+        Perm::Rw,
+        &bytes_of(7),
+    )?;
+    add(
+        &mut encls,
+        Frame(7),
+        Page(8),
+        PageType::Reg,
+        Perm::Rx,
+        &bytes_of(8),
+    )?;
+    add_sealed(&mut encls, Page(0), Perm::R, &bytes_of(0), 0)?;
+    add_sealed(&mut encls, Page(1), Perm::Rw, &bytes_of(1), 1)?;
+    add_sealed(&mut encls, Page(2), Perm::Rx, &bytes_of(2), 2)?;
     Ok(encls)
 }

@@ -41,7 +41,11 @@ fn three_pages_leave_and_come_back(rt: HostRuntime) -> Result<(), Fail> {
     assert_eq!(rt; first_wrong(&mut encls, &script), None);
     let pages = [(8, 2, Perm::Rx), (9, 0, Perm::R), (10, 1, Perm::Rw)];
     for (f, page, perm) in pages {
-        assert_eq!(rt; encls.epcm().entry(Frame(f)), regular(u32::from(page), perm, false), "frame {f}");
+        assert_eq!(rt;
+            encls.epcm().entry(Frame(f)),
+            regular(u32::from(page), perm, false),
+            "frame {f}"
+        );
         assert_eq!(rt; *encls.frame(Frame(f)), bytes_of(page), "frame {f}");
     }
     Ok(())

@@ -1,7 +1,5 @@
 // Each refusal of each leaf, where the refusal that would come next holds too, if both can.
-use crate::enclave::{
-    built, discard, eblock, eldb, eldu, epa, eremove, ewb, first_wrong, handle,
-};
+use crate::enclave::{built, discard, eblock, eldb, eldu, epa, eremove, ewb, first_wrong, handle};
 use ak_core::{Answer, Lp, Move};
 use std::test::Fail;
 
@@ -144,7 +142,10 @@ fn of_cycles(rt: HostRuntime) -> Result<(), Fail> {
     ];
     assert_eq!(rt; first_wrong(&mut encls, &script), None);
     encls.left(Lp(0));
-    assert_eq!(rt; first_wrong(&mut encls, &[(Move::Etrack, Answer::PrevIncomplete)]), None);
+    assert_eq!(rt;
+        first_wrong(&mut encls, &[(Move::Etrack, Answer::PrevIncomplete)]),
+        None
+    );
     encls.left(Lp(1));
     // the second cycle is over, but it began before the second block
     let script = [

@@ -69,7 +69,10 @@ fn slots_are_lost_with_their_page(rt: HostRuntime) -> Result<(), Fail> {
 #[test]
 fn a_page_waits_for_who_was_inside(rt: HostRuntime) -> Result<(), Fail> {
     let mut encls = built(rt.alloc(), 9, 1)?;
-    assert_eq!(rt; first_wrong(&mut encls, &[(eldu(8, 0, 0, 1, 0), Answer::Ok)]), None);
+    assert_eq!(rt;
+        first_wrong(&mut encls, &[(eldu(8, 0, 0, 1, 0), Answer::Ok)]),
+        None
+    );
     encls.entered(Lp(0));
     let script = [
         (eblock(8), Answer::Ok),
@@ -87,7 +90,10 @@ fn a_page_waits_for_who_was_inside(rt: HostRuntime) -> Result<(), Fail> {
 #[test]
 fn a_page_comes_back_blocked(rt: HostRuntime) -> Result<(), Fail> {
     let mut encls = built(rt.alloc(), 9, 1)?;
-    assert_eq!(rt; first_wrong(&mut encls, &[(eldb(8, 1, 1, 1, 1), Answer::Ok)]), None);
+    assert_eq!(rt;
+        first_wrong(&mut encls, &[(eldb(8, 1, 1, 1, 1), Answer::Ok)]),
+        None
+    );
     assert_eq!(rt; encls.epcm().entry(Frame(8)), regular(1, Perm::Rw, true));
     assert_eq!(rt; *encls.frame(Frame(8)), bytes_of(1));
     let script = [

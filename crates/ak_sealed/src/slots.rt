@@ -1,5 +1,5 @@
 // The slots of a version array: 512 of 8 bytes (SDM volume 3D, "Version Array").
-ghost use Rattle.std.specs.Prelude.{◌≡◌, ℕ, ◌+◌, ◌*◌, ◌<◌, ◌≤◌, false, ◌==◌};
+ghost use Rattle.std.specs.Prelude.{◌≡◌, ℕ, ◌+◌, ◌*◌, ◌<◌, ◌≤◌, false, ◌==◌, length};
 ghost use Rattle.std.specs.Option.{option_map};
 ghost use Rattle.ak_model.specs.Flat.FlatRuns.{overwrite};
 ghost use Rattle.ak_model.specs.Flat.Instructions.{le_bytes, number_at};
@@ -33,6 +33,7 @@ pub fn set_slot(va: &mut [u8; PAGE_SIZE], i: u16, handle: Option<Handle>)
     ensures slot { i < 512 → number_at va.new (8 * i) 8 ≡ version (number_of handle) }
     ensures others { (j : ℕ) → (j == i) ≡ false → number_at va.new (8 * j) 8 ≡ number_at va.old (8 * j) 8 }
     ensures outside { 512 ≤ i → va.new ≡ va.old }
+    ensures length { length va.new ≡ length va.old }
 {
     if i >= SLOTS {
         return;

@@ -83,6 +83,7 @@ impl Track {
         ensures err { OnErr result (self.new ≡ self.old) }
         ensures ok { OnOk result ((lps : ℕ) (steps : List TrackStep) → HoldsSteps self.old lps steps
             → length (cycles_by lps steps) + 1 < 2 ^ 64 → HoldsSteps self.new lps (Cycled ∷ steps)) }
+        ensures most { self.new.cycles ≤ self.old.cycles + 1 }
     {
         if self.waits() {
             return Err(Incomplete);

@@ -21,7 +21,7 @@ use Rattle.ak_relation.specs.Premises.Loading.{LoadsFrom}
 use Rattle.ak_relation.specs.Relation.Does.{IsMove}
 use Rattle.ak_relation.proofs.Leaves.LeafMoves.{leaf_moves}
 use Rattle.ak_relation.proofs.Leaves.LoadMoves.{fair_row}
-use Rattle.ak_relation.proofs.Leaves.Loaded.{IsFair, other_va, loaded_entry, loaded_slot, loaded_copy, loaded_one, loaded_stamp}
+use Rattle.ak_relation.proofs.Leaves.Loaded.{IsFair, other_va, loaded_entry, loaded_slot, loaded_whole, loaded_copy, loaded_one, loaded_stamp}
 
 module _ (layout : Layout) (old new : State) (f va : Frame) (k : Handle) (p : Page) (i : ℕ) where
   -- what it changes
@@ -49,7 +49,7 @@ module _ (layout : Layout) (old new : State) (f va : Frame) (k : Handle) (p : Pa
         steps_are = w.track ∙ h.tracking.steps_are;
         stamped = λ g t e. loaded_stamp layout past old new f.0 k.0 p.0 va.0 i true h w fair g t e;
       };
-      frames = record { whole = λ g. w.lengths g ∙ h.frames.whole g };
+      frames = record { whole = λ g. loaded_whole layout past old new f.0 k.0 p.0 va.0 i true h w fair g (g == f.0) refl };
       one_copy = loaded_one layout past old new f.0 k.0 p.0 va.0 i true h w fair;
     };
   }

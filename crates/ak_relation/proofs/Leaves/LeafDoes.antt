@@ -12,7 +12,6 @@ use Rattle.ak_model.specs.Paging.Holdings.{Held, FreeFrame, SecsFrame, VaFrame, 
 use Rattle.ak_model.specs.Paging.Views.{View}
 use Rattle.ak_relation.specs.State.MachineState.{State}
 use Rattle.ak_relation.specs.State.MachineView.{view_in}
-use Rattle.ak_relation.specs.State.TableChanges.{with_block, with_cycle, with_entries, without_sealed_page}
 use Rattle.ak_relation.specs.Premises.LeafDoes.{DoesLeaf, done_answer}
 use Rattle.ak_relation.specs.Relation.Does.{IsMove}
 use Rattle.ak_relation.proofs.Leaves.DoneMoves.{etrack_moves, eblock_moves}

@@ -26,7 +26,7 @@ use Rattle.ak_relation.specs.Relation.Does.{IsMove}
 use Rattle.ak_model.proofs.Control.LeafRows.{frame_ok}
 use Rattle.ak_relation.proofs.Leaves.LeafMoves.{leaf_moves}
 use Rattle.ak_relation.proofs.Leaves.WriteOutMoves.{va_if}
-use Rattle.ak_relation.proofs.Leaves.Loaded.{IsFair, other_va, loaded_entry, loaded_slot, loaded_copy, loaded_one, loaded_stamp}
+use Rattle.ak_relation.proofs.Leaves.Loaded.{IsFair, other_va, loaded_entry, loaded_slot, loaded_whole, loaded_copy, loaded_one, loaded_stamp}
 
 -- the row of a load tells that it is fair
 pub fair_row : (layout : Layout) (past : History) (f k p va i : ℕ) → load_row (view_of layout past) f k p va i ≡ Ok → IsFair layout past f k p va i
@@ -61,7 +61,7 @@ module _ (layout : Layout) (old new : State) (f va : Frame) (k : Handle) (p : Pa
         steps_are = w.track ∙ h.tracking.steps_are;
         stamped = λ g t e. loaded_stamp layout past old new f.0 k.0 p.0 va.0 i false h w fair g t e;
       };
-      frames = record { whole = λ g. w.lengths g ∙ h.frames.whole g };
+      frames = record { whole = λ g. loaded_whole layout past old new f.0 k.0 p.0 va.0 i false h w fair g (g == f.0) refl };
       one_copy = loaded_one layout past old new f.0 k.0 p.0 va.0 i false h w fair;
     };
   }

@@ -74,6 +74,11 @@ module _ (layout : Layout) (past : History) (old new : State) (f k p va i : ℕ)
       ∙ sym (ap (λ g. number_at (old.frames g) (8 * j) 8) (eqb-true wa va e)) ∙ h.slots.versions wa j v lt
   loaded_slot wa j false c e d free v lt = ap (λ bytes. number_at bytes (8 * j) 8) (w.others wa free e) ∙ h.slots.versions wa j v lt
 
+  -- each frame has all its bytes
+  pub loaded_whole : (g : ℕ) (b : Bool) → (g == f) ≡ b → length (new.frames g) ≡ 4096
+  loaded_whole g true e = ap (λ x. length (new.frames x)) (eqb-true g f e) ∙ ap length w.bytes ∙ its_sealed_page.whole
+  loaded_whole g false e = w.lengths g e ∙ h.frames.whole g
+
   -- ---- Copies
 
   apart : (g x : ℕ) (a b : Held) → held layout past g ≡ a → held layout past x ≡ b → (a ≡ b → ⊥) → (g == x) ≡ false

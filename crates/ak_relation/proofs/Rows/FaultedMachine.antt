@@ -12,7 +12,7 @@ use Rattle.ak_model.specs.Control.ControlState.{Context, Control}
 use Rattle.ak_model.specs.Control.RuntimeTurn.{accesses, probed, shown_fault}
 use Rattle.ak_model.specs.Flat.FlatRuns.{Flat}
 use Rattle.ak_relation.specs.Bytes.Pages.{IsTcs}
-use Rattle.ak_ssa.specs.SavedFrames.{ByPage, frame_bytes, saved_bytes}
+use Rattle.ak_ssa.specs.SavedFrames.{ByPage, saved_bytes}
 use Rattle.ak_ssa.specs.SavedRegisters.{AreRegs}
 use Rattle.ak_relation.specs.State.MachineState.{State}
 use Rattle.ak_relation.specs.Premises.EnterRows.{enter_row}

@@ -1,5 +1,5 @@
 -- What a load does to a machine. (SDM volume 3D, ELDB and ELDU.)
-use Rattle.std.specs.Prelude.{◌≡◌, ℕ, ◌*◌, ◌<◌, Bool, true, false, length, Some, ◌==◌, if◌then◌else◌}
+use Rattle.std.specs.Prelude.{◌≡◌, ℕ, ◌*◌, ◌<◌, Bool, false, length, Some, ◌==◌, if◌then◌else◌}
 use Rattle.ak_epcm.specs.Entries.{entry_at}
 use Rattle.ak_model.specs.Flat.Instructions.{number_at}
 use Rattle.ak_sealed.specs.SealedPages.{SealedPage, entry_of}
@@ -14,7 +14,7 @@ pub record LoadsFrom (old new : State) (f k va i : ℕ) (blocked : Bool) : Type 
   pub others : (g : ℕ) → (g == f) ≡ false → (g == va) ≡ false → new.frames g ≡ old.frames g
   pub slot : number_at (new.frames va) (8 * i) 8 ≡ 0
   pub slots : (j : ℕ) → (j == i) ≡ false → j < 512 → number_at (new.frames va) (8 * j) 8 ≡ number_at (old.frames va) (8 * j) 8
-  pub lengths : (g : ℕ) → length (new.frames g) ≡ length (old.frames g)
+  pub lengths : (g : ℕ) → (g == f) ≡ false → length (new.frames g) ≡ length (old.frames g)
   pub stamps : (g : ℕ) → new.stamps g ≡ (if g == f then length old.track else old.stamps g)
   pub sealed_pages : new.sealed_pages ≡ old.sealed_pages
   pub next : new.next ≡ old.next

@@ -11,6 +11,6 @@ pub invariant_of-self : goal.invariant_of-self
 invariant_of-self c =
     let s = c.self.inside in
     let entries_are = ap (λ (e : Enclave). e.entries) c.self.view_is in
-    let valid : (entry_at s.epcm c.args.f.0).valid ≡ true = subst (λ l. (entry_at l c.args.f.0).valid ≡ true) (sym entries_are) c.requires in
+    let valid : (entry_at s.epcm c.args.f.0).valid ≡ true = subst (λ l. (entry_at l c.args.f.0).valid ≡ true) (sym entries_are) c.requires.valid in
     let P : List Entry → Type 0 = λ l. IsSound l s.frames.items s.stamps.items s.sealed in
     subst P (sym c.release.ensures) (release_sound s.epcm s.frames.items s.stamps.items s.sealed c.self.invariant c.args.f.0 (valid_within s.epcm c.args.f.0 valid))

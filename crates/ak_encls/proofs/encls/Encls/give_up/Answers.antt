@@ -1,4 +1,5 @@
 use Rattle.std.proofs.Common.{◌≡◌, ap, sym, ◌∙◌}
+use Rattle.ak_sealed.specs.SealedPages.{Handles}
 use Rattle.ak_encls.specs.Enclave.{Enclave}
 use Rattle.ak_encls.proofs.Soundness.{handles_sound}
 use Rattle.ak_encls.proofs.Discarding.{without_one, same_handles}
@@ -13,6 +14,15 @@ invariant_of-self c =
 pub returns-clause-dead : goal.returns-clause-dead
 returns-clause-dead c = λ dead.
     let s = c.self.inside in
-    let handles_are = same_handles s.sealed c.discard.new.self c.args.h.0 c.discard.ensures.sealed_page c.discard.ensures.next c.discard.ensures.spare
+    let handles_are : c.discard.new.self ≡ s.sealed =
+    same_handles s.sealed c.discard.new.self c.args.h.0 c.discard.ensures.sealed_page c.discard.ensures.next c.discard.ensures.spare
     (sym c.discard.ensures.live ∙ dead) in
-    ?
+    let made : Handles → Enclave = λ handles. record {
+      entries = s.epcm;
+      frames = s.frames.items;
+      handles = handles;
+      track = s.track;
+      stamps = s.stamps.items;
+      measure = s.measure;
+    } in
+    ap made handles_are ∙ c.self.view_is

@@ -1,11 +1,10 @@
-use Rattle.std.proofs.Common.{◌≡◌, ◌<◌, ℕ, false, List, length, set, ap, sym, ◌∙◌, subst, refl}
-use Rattle.std.specs.Prelude.{None}
+use Rattle.std.proofs.Common.{◌<◌, List, length, set, ap, sym, ◌∙◌, subst, refl}
 use Rattle.ak_core.specs.declared.page.Entry.{Entry}
 use Rattle.ak_encls.specs.Building.{va_entry}
 use Rattle.ak_encls.specs.Enclave.{Enclave}
 use Rattle.ak_encls.specs.Sound.{IsSound, slot_by}
 use Rattle.ak_encls.proofs.Soundness.{set_sound, blank_slot}
-use Rattle.ak_encls.proofs.encls.Encls.set_va.Goals as goal
+use Rattle.ak_encls.proofs.encls.Encls.add_va.Goals as goal
 
 pub invariant_of-self : goal.invariant_of-self
 invariant_of-self c =

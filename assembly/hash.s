@@ -1,0 +1,27 @@
+# Hashes a secret text by FNV-1a and puts the hash out. It makes the same accesses whatever the text is: a kernel learns its hash alone.
+# tools/image links it. All numbers are 64 bits (movabs), all displacements 32 ({disp32}), and moves of bytes have {rex}.
+        .intel_syntax noprefix
+        .globl  _start
+_start: movabs  rbx, offset secret
+        movabs  r9, offset end
+        movabs  rsi, 0xcbf29ce484222325
+        movabs  r8, 0x100000001b3
+        movabs  r10, 1
+next:   movabs  rcx, 0
+        {rex} {disp32} mov cl, [rbx]
+        xor     rsi, rcx
+        imul    rsi, r8
+        add     rbx, r10
+        cmp     rbx, r9
+        {disp32} jb next
+        movabs  rdi, 1
+        movabs  rax, 4
+        enclu
+        movabs  rsi, 0
+        movabs  rdi, 0
+        movabs  rax, 4
+        enclu
+
+        .section .rodata
+secret: .ascii  "attack at dawn"
+end:
