@@ -4,8 +4,8 @@ use Rattle.ak_core.specs.Layout.{Layout}
 use Rattle.ak_model.specs.Paging.Holdings.{Mapping}
 use Rattle.ak_model.specs.Paging.Pages.{all_pages}
 use Rattle.ak_pte.specs.declared.table.Pte.{Pte}
-use Rattle.ak_tlb.specs.Fills.{HoldsFills, Fill as CachedFill}
-use Rattle.ak_relation.specs.State.MachineState.{State, Processor, Fill}
+use Rattle.ak_tlb.specs.Fills.{HoldsFills, Fill as CachedFill, Fill}
+use Rattle.ak_relation.specs.State.MachineState.{State, Processor}
 use Rattle.ak_encls.specs.Enclave.{Enclave}
 use Rattle.ak_encls.specs.Paging.{IsPaging}
 use Rattle.ak_enclu.specs.EnterAnswers.{pte_at}
