@@ -62,6 +62,7 @@ impl Encls {
         requires { is_of_page (entry_at self.old.entries f.0) ≡ true }
         ensures* writes_back { sem 𝓛 (LendsFrame self.entry f.0 result) }
         ensures bytes { result.now ≡ frame_at self.old.frames f.0 }
+        ensures within { f.0 < length self.old.frames }
     {
         &mut self.frames[f.0 as usize]
     }

@@ -1,0 +1,5 @@
+mod Fields
+mod Rows
+mod Changes
+mod Entered
+mod Left
