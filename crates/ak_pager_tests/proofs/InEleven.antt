@@ -1,11 +1,12 @@
 -- The memory of eleven pages that the tests use.
-use Rattle.std.proofs.Common.{◌≡◌, ℕ, ◌<◌, List, [], ◌∷◌, refl, ap, ◌∙◌, arith, length}
+use Rattle.std.proofs.Common.{◌≡◌, ℕ, zero, suc, ◌<◌, List, [], ◌∷◌, refl, ap, ◌∙◌, arith, length}
 use Rattle.std.proofs.Math.Path.{fun_ext}
 use Rattle.std.specs.Prelude.{Bool, true, false, ◌&&◌, ◌||◌, ◌==◌, nat_lt, slice_set, slice_index_or, if◌then◌else◌}
+use Rattle.std.proofs.lemmas.Bool.{eq-eqb}
 use Rattle.std.proofs.lemmas.Bool.Decides.{nat_tests}
 use Rattle.std.proofs.lemmas.List.{get_or-set_same, get_or-set_other}
 use Rattle.ak_core.specs.Mem.{Access, is_touched, is_writable, is_write, with_page}
-use Rattle.ak_pager_tests.specs.ElevenPages.{are_inside, page_of, blank_page}
+use Rattle.ak_pager_tests.specs.ElevenPages.{are_inside, are_whole, page_of, blank_page}
 
 both : (a b : Bool) → a && b ≡ true → (a ≡ true) × (b ≡ true)
 both true b h = (refl, h)
@@ -40,3 +41,15 @@ set-at pages p q new false below e = get_or-set_other pages p q new blank_page (
 -- one page is set, and the others stay
 pub page_of-set : (pages : List (List ℕ)) (p : ℕ) (new : List ℕ) → p < length pages → page_of (slice_set pages p new) ≡ with_page (page_of pages) p new
 page_of-set pages p new below = fun_ext (λ q. set-at pages p q new (q == p) below refl)
+
+both-of : (a b : Bool) → a ≡ true → b ≡ true → a && b ≡ true
+both-of true b x y = y
+both-of false b x y = absurd (cc)
+
+-- one page is set to another whole one, and all are whole
+pub whole-set : (pages : List (List ℕ)) (p : ℕ) (new : List ℕ) → are_whole pages ≡ true → length new ≡ 4096 → are_whole (slice_set pages p new) ≡ true
+whole-set [] p new whole size = whole
+whole-set (page ∷ pages) zero new whole size = both-of (length new == 4096) (are_whole pages) (eq-eqb (length new) 4096 size) (both (length page == 4096) (are_whole pages) whole).1
+whole-set (page ∷ pages) (suc p) new whole size =
+    both-of (length page == 4096) (are_whole (slice_set pages p new)) (both (length page == 4096) (are_whole pages) whole).0
+    (whole-set pages p new (both (length page == 4096) (are_whole pages) whole).1 size)

@@ -19,12 +19,25 @@ pub struct Pages {
 }
 
 impl Pages {
-    pub fn new(pages: [[u8; 4096]; 11], refuses: usize) -> Self {
+    /// Eleven pages of zeros.
+    pub fn new() -> Self {
         Pages {
-            pages,
-            refuses,
+            pages: [[0; 4096]; 11],
+            refuses: 4,
             granted: ArrayVec::new(),
             refused: None,
+        }
+    }
+
+    /// Refuses the touch of this number from now on.
+    pub fn refuse(&mut self, number: usize) {
+        self.refuses = number;
+    }
+
+    /// Puts bytes in place of those of a page.
+    pub fn put(&mut self, page: usize, bytes: &[u8; 4096]) {
+        if page < 11 {
+            self.pages[page].copy_from_slice(bytes);
         }
     }
 

@@ -225,18 +225,18 @@ const KEPT: Regs = Regs {
 #[derive(Drop)]
 struct Row {
     regs: Regs,
-    pages: [[u8; 4096]; 11],
+    pages: Pages,
     ending: &'static str,
-    after: [[u8; 4096]; 11],
+    after: Pages,
 }
 
 /// Eleven pages, of which STATE has these bytes, and the areas these.
-fn pages(areas: &[[u8; 4096]; 3], state: [u8; 4096]) -> [[u8; 4096]; 11] {
-    let mut pages = [[1; 4096]; 11];
+fn pages(areas: &[[u8; 4096]; 3], state: &[u8; 4096]) -> Pages {
+    let mut pages = Pages::new();
     for (i, area) in areas.iter().enumerate() {
-        pages[6 + i] = *area;
+        pages.put(6 + i, area);
     }
-    pages[9] = state;
+    pages.put(9, state);
     pages
 }
 
@@ -244,8 +244,16 @@ fn read_row(line: &'static str) -> Result<Row, Fail> {
     let mut columns = line.split('|');
     let regs = at_step(columns.next().unwrap_or(""))?;
     let mut state = [7u8; 4096];
-    put_state(&mut state, columns.next().unwrap_or(""), columns.next().unwrap_or(""))?;
-    frame::save(&mut state[2048..2248], &KEPT, Why::PageFault(BASE, Kind::Write));
+    put_state(
+        &mut state,
+        columns.next().unwrap_or(""),
+        columns.next().unwrap_or(""),
+    )?;
+    frame::save(
+        &mut state[2048..2248],
+        &KEPT,
+        Why::PageFault(BASE, Kind::Write),
+    );
     let mut areas = [[9u8; 4096]; 3];
     for (i, words) in columns.next().unwrap_or("").split(';').enumerate() {
         let (its_regs, its_why) = saved(words)?;
@@ -253,9 +261,13 @@ fn read_row(line: &'static str) -> Result<Row, Fail> {
             save(&mut areas[i], &its_regs, its_why);
         }
     }
-    let before = pages(&areas, state);
+    let before = pages(&areas, &state);
     let ending = columns.next().unwrap_or("").trim();
-    put_state(&mut state, columns.next().unwrap_or(""), columns.next().unwrap_or(""))?;
+    put_state(
+        &mut state,
+        columns.next().unwrap_or(""),
+        columns.next().unwrap_or(""),
+    )?;
     if ending.starts_with("Leave(Ask") {
         state[2048..2248].copy_from_slice(&areas[0][3896..]);
     }
@@ -263,7 +275,11 @@ fn read_row(line: &'static str) -> Result<Row, Fail> {
         save(&mut areas[0], &KEPT, Why::Interrupt);
     }
     if line.starts_with("leave") {
-        let left = Regs { rip: regs.gpr[1], mode: Mode::Program, ..regs };
+        let left = Regs {
+            rip: regs.gpr[1],
+            mode: Mode::Program,
+            ..regs
+        };
         frame::save(&mut state[2048..2248], &left, Why::Interrupt);
     }
     let guards = number(columns.next().unwrap_or("").trim())? as usize;
@@ -276,13 +292,16 @@ fn read_row(line: &'static str) -> Result<Row, Fail> {
         regs,
         pages: before,
         ending,
-        after: pages(&areas, state),
+        after: pages(&areas, &state),
     })
 }
 
 /// The accesses of a step, by its line.
 fn accesses(line: &str) -> [Option<Fault>; 4] {
-    let access = |page: u32, kind: Kind| Some(Fault { page: Page(page), kind });
+    let access = |page: u32, kind: Kind| Some(Fault {
+        page: Page(page),
+        kind,
+    });
     let code = access(10, Kind::Exec);
     let state = access(9, Kind::Write);
     let (third, fourth) = if line.starts_with("entry 1") {
@@ -306,7 +325,15 @@ fn accesses(line: &str) -> [Option<Fault>; 4] {
 /// The registers after a step that goes on.
 fn goes_on(line: &str, before: Regs) -> Regs {
     if line.starts_with("entry 0 5 | new") {
-        return Regs { rip: BASE + 8, gpr: [0; 16], cf: false, zf: false, sf: false, of: false, mode: Mode::Program };
+        return Regs {
+            rip: BASE + 8,
+            gpr: [0; 16],
+            cf: false,
+            zf: false,
+            sf: false,
+            of: false,
+            mode: Mode::Program,
+        };
     }
     let mut regs = before;
     if line.starts_with("entry 0") {
@@ -329,10 +356,14 @@ fn does_each_row(rt: HostRuntime) -> Result<(), Fail> {
     for line in ROWS.lines() {
         let row = read_row(line)?;
         let mut regs = row.regs;
-        let mut mem = Pages::new(row.pages, 4);
+        let mut mem = row.pages;
         let turn = runtime_turn(&layout, &mut regs, &mut mem);
-        assert_eq!(rt; format!(in rt.alloc(); "{turn:?}")?.as_str(), row.ending, "{line}");
-        assert!(rt; *mem.pages() == row.after, "{line}");
+        assert_eq!(rt;
+            format!(in rt.alloc(); "{turn:?}")?.as_str(),
+            row.ending,
+            "{line}"
+        );
+        assert!(rt; *mem.pages() == *row.after.pages(), "{line}");
         let mut touched = mem.granted().iter();
         for access in accesses(line) {
             assert!(rt; touched.next().copied() == access, "{line}");
@@ -354,9 +385,10 @@ fn faults_at_each_touch(rt: HostRuntime) -> Result<(), Fail> {
                 break;
             };
             let row = read_row(line)?;
-            let before = row.pages;
+            let before = *row.pages.pages();
             let mut regs = row.regs;
-            let mut mem = Pages::new(row.pages, k);
+            let mut mem = row.pages;
+            mem.refuse(k);
             let turn = runtime_turn(&layout, &mut regs, &mut mem);
             assert!(rt; turn == RtTurn::Faulted(access), "{line}");
             assert_eq!(rt; regs, row.regs, "{line}");
