@@ -1,10 +1,10 @@
 -- How a leaf answers, and what it leaves beside the machine's paging part.
-use Rattle.std.specs.Prelude.{◌≡◌, ℕ, ◌+◌, ◌≤◌, Bool, true, false, length, Result}
+use Rattle.std.specs.Prelude.{◌≡◌, ℕ, ◌+◌, ◌^◌, ◌<◌, ◌≤◌, Bool, true, false, length, Result}
 use Rattle.ak_core.specs.declared.moves.Move.{Move}
 use Rattle.ak_core.specs.declared.page.Frame.{Frame}
 use Rattle.ak_core.specs.declared.page.Handle.{Handle}
 use Rattle.ak_core.specs.declared.page.Page.{Page}
-use Rattle.ak_core.specs.declared.moves.Move.TheVariants.{Ewb, Eldu, Eldb}
+use Rattle.ak_core.specs.declared.moves.Move.TheVariants.{Etrack, Ewb, Eldu, Eldb}
 use Rattle.ak_core.specs.declared.moves.Answer.{Answer}
 use Rattle.ak_core.specs.declared.moves.Answer.TheVariants.{OkHandle}
 use Rattle.ak_model.specs.Kernels.Repeats.{is_done}
@@ -34,6 +34,11 @@ load_move f h p va i false = Eldu f h p va i
 abbrev pub is_write_out : Move → Bool
 is_write_out (Ewb f va i) = true
 is_write_out _ = false
+
+-- where the move is ETRACK: so few cycles began that one more is told apart from them
+abbrev pub IsCounted : Move → ℕ → Type 0
+IsCounted Etrack cycles = cycles < 2 ^ 63
+IsCounted _ cycles = Unit {0}
 
 -- how many sealed pages an answer gives
 abbrev pub given_by : Answer → ℕ

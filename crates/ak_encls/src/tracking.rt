@@ -13,12 +13,13 @@ use ak_core::Answer;
 use ak_track::Incomplete;
 
 impl Encls {
-    /// Begins a cycle of tracking (SDM volume 3D, ETRACK), which waits for each processor that is inside.
+    /// Begins a cycle of tracking (SDM volume 3D, ETRACK), which waits for each processor that is inside. Fewer than 2^63 are
+    /// told apart.
     pub(crate) fn begin_cycle(&mut self) -> Result<Answer, Answer>
-        requires few { self.old.track.cycles < 2 ^ 63 }
         ensures row { (layout : Layout) (state : State) → IsPaging layout self.old state → answer_in result ≡ leaf_row (view_in layout state) Etrack }
         ensures refused { OnErr result (self.new ≡ self.old) }
-        ensures done { OnOk result ((layout : Layout) (state : State) → IsPaging layout self.old state → LeadsTo layout state Etrack self.new) }
+        ensures done { OnOk result ((layout : Layout) (state : State) → IsPaging layout self.old state
+            → self.old.track.cycles < 2 ^ 63 → LeadsTo layout state Etrack self.new) }
         ensures rest { KeepsRest self.old self.new (answer_in result) }
         ensures kind { IsOutcome result }
     {
