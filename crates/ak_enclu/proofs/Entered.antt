@@ -15,7 +15,8 @@ use Rattle.ak_relation.specs.Premises.Resuming.{ResumesAt}
 use Rattle.ak_relation.specs.State.MachineState.{State, Processor}
 use Rattle.ak_relation.specs.State.Tables.{TablesStand}
 use Rattle.ak_encls.specs.Enclave.{Enclave, blank_page, frame_at}
-use Rattle.ak_enclu.specs.EnterAnswers.{pte_at, held_at}
+use Rattle.ak_enclu.specs.EnterAnswers.{held_at}
+use Rattle.ak_pte.specs.Table.{pte_at}
 use Rattle.ak_enclu.specs.Machines.{IsProcessor, IsMachine, LeadsToWhere}
 use Rattle.ak_enclu.specs.Passing.{tcs_at, inside_with, EntersTo}
 use Rattle.ak_enclu.specs.Processors.{entry_regs_at}

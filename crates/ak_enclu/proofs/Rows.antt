@@ -23,7 +23,8 @@ use Rattle.ak_relation.specs.Premises.EnterRows.{walk_in, tcs_in, tcs_bytes, ent
 use Rattle.ak_relation.specs.State.MachineState.{State}
 use Rattle.ak_relation.specs.State.Tables.{TablesStand}
 use Rattle.ak_encls.specs.Enclave.{Enclave}
-use Rattle.ak_enclu.specs.EnterAnswers.{pte_at, finds_tcs, finds_area, area_page, unless_outside, enter_answer, resume_answer}
+use Rattle.ak_enclu.specs.EnterAnswers.{finds_tcs, finds_area, area_page, unless_outside, enter_answer, resume_answer}
+use Rattle.ak_pte.specs.Table.{pte_at}
 use Rattle.ak_enclu.specs.Machines.{mapping_of, IsMachine}
 use Rattle.ak_enclu.specs.Passing.{tcs_at}
 use Rattle.ak_enclu.specs.TcsBytes.{saved_of, pending_of}

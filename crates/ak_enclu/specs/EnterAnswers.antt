@@ -1,21 +1,17 @@
 -- The answers of EENTER and ERESUME to a processor that there is, by the EPCM, the page table and the bytes of the TCS, whatever its
 -- page is; the areas are the pages that follow. (SDM volume 3D, EENTER, ERESUME; that their walks are those of any access is the
 -- Autarky paper's.)
-use Rattle.std.specs.Prelude.{ℕ, ◌+◌, ◌-◌, Bool, not, List, ◌==◌, if◌then◌else◌, slice_index_or}
+use Rattle.std.specs.Prelude.{ℕ, ◌+◌, ◌-◌, Bool, not, List, ◌==◌, if◌then◌else◌}
 use Rattle.ak_core.specs.declared.moves.Answer.{Answer}
 use Rattle.ak_core.specs.declared.moves.Answer.TheVariants.{Ok, Inside, TcsFault, Busy, Gp, Pending, SsaFault}
 use Rattle.ak_core.specs.declared.page.Entry.{Entry}
 use Rattle.ak_core.specs.declared.page.Kind.TheVariants.{Write}
 use Rattle.ak_epcm.specs.Entries.{entry_at}
-use Rattle.ak_pte.specs.Table.{unmapped}
+use Rattle.ak_pte.specs.Table.{pte_at}
 use Rattle.ak_pte.specs.declared.table.Pte.{Pte}
 use Rattle.ak_walk.specs.Finds.{walk_finds, tcs_walk_finds}
 use Rattle.ak_enclu.specs.declared.areas.Held.{Held}
 use Rattle.ak_enclu.specs.TcsBytes.{saved_of, pending_of}
-
--- a page's entry in the page table; a page that there is not is mapped to nothing
-abbrev pub pte_at : List Pte → ℕ → Pte
-pte_at table p = slice_index_or table p unmapped
 
 -- entering finds the TCS
 abbrev pub finds_tcs : List Entry → List Pte → ℕ → Bool

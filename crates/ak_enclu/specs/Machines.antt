@@ -8,7 +8,7 @@ use Rattle.ak_tlb.specs.Fills.{HoldsFills}
 use Rattle.ak_relation.specs.State.MachineState.{State, Processor}
 use Rattle.ak_encls.specs.Enclave.{Enclave}
 use Rattle.ak_encls.specs.Paging.{IsPaging}
-use Rattle.ak_enclu.specs.EnterAnswers.{pte_at}
+use Rattle.ak_pte.specs.Table.{pte_at}
 use Rattle.ak_enclu.specs.declared.cpu.Cpu.{Cpu}
 
 -- an entry of the page table

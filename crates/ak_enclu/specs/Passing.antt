@@ -9,7 +9,7 @@ use Rattle.ak_ssa.specs.declared.cause.Why.{Why}
 use Rattle.ak_track.specs.Steps.{TrackStep, EntersBy, LeavesBy}
 use Rattle.ak_track.specs.Tracking.{HoldsSteps}
 use Rattle.ak_encls.specs.Enclave.{Enclave, frame_at}
-use Rattle.ak_enclu.specs.EnterAnswers.{pte_at}
+use Rattle.ak_pte.specs.Table.{pte_at}
 use Rattle.ak_enclu.specs.TcsBytes.{saved_of, after_exit}
 use Rattle.ak_enclu.specs.declared.areas.Held.{Held}
 use Rattle.ak_enclu.specs.declared.cpu.Cpu.{Cpu}

@@ -5,7 +5,8 @@ ghost use Rattle.ak_core.specs.declared.moves.Answer.TheVariants.{Ok as Done, Ss
 ghost use Rattle.ak_epcm.specs.Entries.{entry_at, has_page, is_of_page};
 ghost use Rattle.ak_model.specs.Kernels.Repeats.{is_done};
 ghost use Rattle.ak_encls.specs.Answering.{unless};
-ghost use Rattle.ak_enclu.specs.EnterAnswers.{pte_at, finds_tcs, finds_area, area_page, unless_outside, enter_area, resume_area};
+ghost use Rattle.ak_enclu.specs.EnterAnswers.{finds_tcs, finds_area, area_page, unless_outside, enter_area, resume_area};
+ghost use Rattle.ak_pte.specs.Table.{pte_at};
 ghost use Rattle.ak_enclu.specs.TcsBytes.{saved_of};
 
 use crate::tcs::{is_pending, saved};

@@ -1,5 +1,5 @@
 -- The entries of the EPCM. (SDM volume 3D, "Enclave Page Cache Map".)
-use Rattle.std.specs.Prelude.{◌≡◌, ℕ, ◌^◌, ◌<◌, Bool, true, false, ◌&&◌, List, length, ◌==◌, slice_index_or}
+use Rattle.std.specs.Prelude.{◌≡◌, ℕ, ◌^◌, ◌<◌, Bool, true, false, ◌&&◌, List, length, Option, ◌==◌, position, slice_index_or}
 use Rattle.ak_core.specs.declared.page.Entry.{Entry}
 use Rattle.ak_core.specs.declared.page.PageType.{PageType}
 use Rattle.ak_core.specs.declared.page.PageType.TheVariants.{Secs, Tcs, Reg, Va}
@@ -34,6 +34,10 @@ is_of_page e = e.valid && is_addressed e.kind
 -- the frame holds this page of the enclave
 abbrev pub has_page : Entry → ℕ → Bool
 has_page e p = is_of_page e && (e.page.0 == p)
+
+-- the first frame that holds this page of the enclave, if one does
+abbrev pub frame_with : List Entry → ℕ → Option ℕ
+frame_with entries p = position (λ e. has_page e p) entries
 
 -- no frame holds this page of the enclave
 abbrev pub HasNoFrame : List Entry → ℕ → Type 0

@@ -12,7 +12,8 @@ use Rattle.ak_walk.specs.Agrees.{EntryAgrees}
 use Rattle.ak_machine.specs.declared.activity.Stage.{Stage}
 use Rattle.ak_machine.specs.declared.activity.Activity.{Activity}
 use Rattle.ak_machine.specs.Served.{IsServedLayout}
-use Rattle.ak_machine.specs.Memory.{Frames, frame_with, bytes_found, tables_of, bytes_of}
+use Rattle.ak_machine.specs.Memory.{Frames, bytes_found, tables_of, bytes_of}
+use Rattle.ak_epcm.specs.Entries.{frame_with}
 use Rattle.ak_machine.specs.State.{State}
 use Rattle.ak_machine.specs.Built.{MapsEach, FillsEach, page_held, bytes_held, IsBuilt, HoldsPages}
 use Rattle.ak_machine.proofs.Held.{distinct_held, held_there, frame_low, has_held, held_has}

@@ -19,7 +19,8 @@ use Rattle.ak_epcm.proofs.EntryLists.{entry_at-set_same, entry_at-set_other}
 use Rattle.ak_pte.specs.Table.{unmapped}
 use Rattle.ak_pte.specs.declared.table.Pte.{Pte}
 use Rattle.ak_walk.specs.Agrees.{EntryAgrees}
-use Rattle.ak_machine.specs.Memory.{Frames, IsWhole, blank_page, length-blank_page, bytes_in, frame_bytes, pte_at}
+use Rattle.ak_machine.specs.Memory.{Frames, IsWhole, blank_page, length-blank_page, bytes_in, frame_bytes}
+use Rattle.ak_pte.specs.Table.{pte_at}
 use Rattle.ak_machine.specs.Built.{IsMapping, MapsEach, FillsEach, page_held, bytes_held}
 use Rattle.ak_machine.proofs.Held.{distinct_held, free_beyond, has_held}
 

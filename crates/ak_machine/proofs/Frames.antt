@@ -15,7 +15,8 @@ use Rattle.ak_core.specs.declared.page.Entry.{Entry}
 use Rattle.ak_epcm.specs.Entries.{entry_at, free_entry, is_of_page, has_page, HasNoFrame, HasDistinctPages}
 use Rattle.ak_epcm.proofs.EntryLists.{valid_in_range}
 use Rattle.ak_walk.proofs.Bridge.{walk_finds-has_page}
-use Rattle.ak_machine.specs.Memory.{Tables, Frames, IsWhole, bytes_in, frame_bytes, frame_with, bytes_found, bytes_of, finds}
+use Rattle.ak_machine.specs.Memory.{Tables, Frames, IsWhole, bytes_in, frame_bytes, bytes_found, bytes_of, finds}
+use Rattle.ak_epcm.specs.Entries.{frame_with}
 
 -- ---- The frame that holds a page
 

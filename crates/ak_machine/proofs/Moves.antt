@@ -37,7 +37,8 @@ use Rattle.ak_machine.specs.declared.activity.Stage.{Stage}
 use Rattle.ak_machine.specs.declared.activity.Activity.{Activity}
 use Rattle.ak_machine.specs.declared.notes.RuntimeNote.{RuntimeNote}
 use Rattle.ak_machine.specs.Served.{IsServedLayout, is_first_or_none}
-use Rattle.ak_machine.specs.Memory.{pte_at, tables_of}
+use Rattle.ak_machine.specs.Memory.{tables_of}
+use Rattle.ak_pte.specs.Table.{pte_at}
 use Rattle.ak_machine.specs.State.{State}
 use Rattle.ak_machine.specs.Controls.{control_of, stack_in, is_inside}
 use Rattle.ak_machine.specs.Stands.{Stands, IsEntry}

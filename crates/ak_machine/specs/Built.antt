@@ -7,7 +7,8 @@ use Rattle.ak_model.specs.Paging.Holdings.{Held, PageFrame, Mapping}
 use Rattle.ak_model.specs.Paging.Build.{held_at_build, entry_at_build}
 use Rattle.ak_model.specs.Control.ControlState.{control_at_build}
 use Rattle.ak_pte.specs.declared.table.Pte.{Pte}
-use Rattle.ak_machine.specs.Memory.{Frames, blank_page, frame_bytes, is_held, pte_at}
+use Rattle.ak_machine.specs.Memory.{Frames, blank_page, frame_bytes, is_held}
+use Rattle.ak_pte.specs.Table.{pte_at}
 use Rattle.ak_machine.specs.State.{State}
 use Rattle.ak_machine.specs.Controls.{control_of}
 use Rattle.ak_machine.specs.Stands.{Stands}

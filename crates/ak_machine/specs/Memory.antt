@@ -1,13 +1,13 @@
 -- Pages in frames, found by the tables.
-use Rattle.std.specs.Prelude.{◌≡◌, ℕ, Bool, ◌&&◌, List, length, replicate, Option, Some, None, is_some, Vec, position, slice_get, slice_index_or, nat_lt, refl}
+use Rattle.std.specs.Prelude.{◌≡◌, ℕ, Bool, ◌&&◌, List, length, replicate, Option, Some, None, is_some, Vec, slice_get, nat_lt, refl}
 use Rattle.std.proofs.Common.{◌∙◌}
 use Rattle.std.proofs.lemmas.List.{length-replicate}
 use Rattle.std.specs.declared.alloc.Global.{Global}
 use Rattle.ak_core.specs.Mem.{Access}
 use Rattle.ak_core.specs.declared.page.Entry.{Entry}
 use Rattle.ak_core.specs.declared.page.Flags.{Flags}
-use Rattle.ak_epcm.specs.Entries.{entry_at, has_page}
-use Rattle.ak_pte.specs.Table.{unmapped}
+use Rattle.ak_epcm.specs.Entries.{entry_at, frame_with}
+use Rattle.ak_pte.specs.Table.{pte_at}
 use Rattle.ak_pte.specs.declared.table.Pte.{Pte}
 use Rattle.ak_walk.specs.Finds.{walk_finds}
 
@@ -42,10 +42,6 @@ frame_bytes frames f = bytes_in (slice_get frames f)
 abbrev pub IsWhole : Frames → Type 0
 IsWhole frames = (f : ℕ) → length (frame_bytes frames f) ≡ 4096
 
--- the frame that holds a page of the enclave, if one does
-abbrev pub frame_with : List Entry → ℕ → Option ℕ
-frame_with entries p = position (λ e. has_page e p) entries
-
 -- a frame holds the page
 abbrev pub is_held : List Entry → ℕ → Bool
 is_held entries p = is_some (frame_with entries p)
@@ -68,10 +64,6 @@ pub length-bytes_of : (frames : Frames) (entries : List Entry) → IsWhole frame
 length-bytes_of frames entries whole p = length-bytes_found frames (frame_with entries p) whole
 
 -- ---- Tables
-
--- a page's entry of the page table; a page that the table does not have is mapped to nothing
-abbrev pub pte_at : List Pte → ℕ → Pte
-pte_at table p = slice_index_or table p unmapped
 
 -- by what a memory finds its pages: how many pages the page table has, the frame and the flags of each page's entry, and the
 -- entries of the EPCM

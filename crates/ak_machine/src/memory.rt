@@ -4,7 +4,8 @@ ghost use Rattle.std.specs.List.{list_all};
 ghost use Rattle.std.specs.Option.{ForSome};
 ghost use Rattle.ak_core.specs.Mem.{Touches, is_touched, put_at};
 ghost use Rattle.ak_epcm.specs.Entries.{HasDistinctPages};
-ghost use Rattle.ak_machine.specs.Memory.{IsWhole, frame_with, is_held, tables_of, finds};
+ghost use Rattle.ak_machine.specs.Memory.{IsWhole, is_held, tables_of, finds};
+ghost use Rattle.ak_epcm.specs.Entries.{frame_with};
 
 use ak_core::{Fault, Frame, Kind, Mem, Page};
 use ak_epcm::Epcm;

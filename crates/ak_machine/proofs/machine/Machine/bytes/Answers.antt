@@ -1,6 +1,7 @@
 use Rattle.std.proofs.Common.{◌∙◌, ◌<◌, length, ap, sym, arith, refl}
 use Rattle.std.specs.Prelude.{is_some}
-use Rattle.ak_machine.specs.Memory.{frame_with, bytes_found}
+use Rattle.ak_machine.specs.Memory.{bytes_found}
+use Rattle.ak_epcm.specs.Entries.{frame_with}
 use Rattle.ak_machine.proofs.Frames.{frame_with-has, frame_with-none, frame_bytes-read}
 use Rattle.ak_machine.proofs.machine.Machine.bytes.Goals as goal
 

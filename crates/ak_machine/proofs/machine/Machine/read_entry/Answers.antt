@@ -3,7 +3,7 @@ use Rattle.std.proofs.lemmas.Option.{get_or_from_slice_get}
 use Rattle.ak_model.specs.Paging.Pages.{pages}
 use Rattle.ak_pte.specs.Table.{unmapped}
 use Rattle.ak_pte.specs.declared.table.Pte.{Pte}
-use Rattle.ak_machine.specs.Memory.{pte_at}
+use Rattle.ak_pte.specs.Table.{pte_at}
 use Rattle.ak_machine.specs.State.{state_of}
 use Rattle.ak_machine.proofs.Moves.{read_entry, read_refused}
 use Rattle.ak_machine.proofs.machine.Machine.read_entry.Goals as goal

@@ -1,0 +1,47 @@
+-- Which accesses a memory grants, and in which frames: those whose translation is cached, and those that a walk finds.
+-- (SDM volume 3A, "Translation Lookaside Buffers (TLBs)"; SDM volume 3D, "Access-control for EPC pages".)
+use Rattle.std.specs.Prelude.{◌≡◌, ℕ, Bool, true, List, [], ◌∷◌, Option, Some, None, is_some}
+use Rattle.std.specs.Bool.{then_some}
+use Rattle.std.specs.Option.{option_or}
+use Rattle.std.specs.List.{list_any}
+use Rattle.ak_core.specs.Mem.{Access, access_to}
+use Rattle.ak_core.specs.declared.page.Entry.{Entry}
+use Rattle.ak_core.specs.declared.page.Frame.{Frame}
+use Rattle.ak_core.specs.declared.page.Kind.{Kind}
+use Rattle.ak_core.specs.declared.page.Kind.TheVariants.{Read, Write, Exec}
+use Rattle.ak_epcm.specs.Entries.{entry_at, has_page, frame_with}
+use Rattle.ak_pte.specs.Table.{pte_at}
+use Rattle.ak_pte.specs.declared.table.Pte.{Pte}
+use Rattle.ak_tlb.specs.Translations.{found, frame_in}
+use Rattle.ak_tlb.specs.declared.translation.Translation.{Translation}
+use Rattle.ak_walk.specs.Finds.{walk_finds}
+use Rattle.ak_encls.specs.Enclave.{blank_page, frame_at}
+
+-- a walk finds the access
+abbrev pub is_walked : List Entry → List Pte → Access → Bool
+is_walked entries table t =
+    let pte = pte_at table t.page.0 in walk_finds pte.flags (entry_at entries pte.frame.0) t.page.0 t.kind
+
+-- the frame in which an access is granted, if it is: that of its cached translation, else that which a walk finds
+abbrev pub granted_frame : List Entry → List Pte → List Translation → Access → Option Frame
+granted_frame entries table cached t =
+    option_or (frame_in (found cached t)) (then_some (is_walked entries table t) (pte_at table t.page.0).frame)
+
+-- some access of the page is granted
+abbrev pub is_seen : List Entry → List Pte → List Translation → ℕ → Bool
+is_seen entries table cached p =
+    list_any (λ kind. is_some (granted_frame entries table cached (access_to p kind))) (Read ∷ Write ∷ Exec ∷ [])
+
+-- each cached translation names a frame that holds its page
+abbrev pub NamesPages : List Entry → List Translation → Type 0
+NamesPages entries cached =
+    (t : Access) (f : Frame) → frame_in (found cached t) ≡ Some f → has_page (entry_at entries f.0) t.page.0 ≡ true
+
+-- the bytes of the frame that was found
+abbrev pub bytes_found : List (List ℕ) → Option ℕ → List ℕ
+bytes_found frames None = blank_page
+bytes_found frames (Some f) = frame_at frames f
+
+-- the bytes of a page, by the frame that holds it; a page that none holds has zeros
+abbrev pub bytes_of : List (List ℕ) → List Entry → ℕ → List ℕ
+bytes_of frames entries p = bytes_found frames (frame_with entries p)
