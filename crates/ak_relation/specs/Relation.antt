@@ -1,5 +1,6 @@
 -- The relation at a moment of a trace, and the steps from one moment to another.
 pub mod Stands
+pub mod HeldFrames
 pub mod Does
 pub mod TurnByTurn
 pub mod MoveByMove

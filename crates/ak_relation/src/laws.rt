@@ -2,6 +2,7 @@
 
 pub mod built;
 pub mod entering;
+pub mod holding;
 pub mod leaves;
 pub mod program;
 pub mod reached;
