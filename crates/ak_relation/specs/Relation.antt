@@ -3,6 +3,7 @@ pub mod Stands
 pub mod HeldFrames
 pub mod Does
 pub mod TurnByTurn
+pub mod Causes
 pub mod MoveByMove
 pub mod Example
 pub mod Witnesses
