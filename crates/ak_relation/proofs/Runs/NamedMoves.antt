@@ -115,9 +115,6 @@ module _ (layout : Layout) (lp : ℕ) (old new : State) where
       NamesCause layout lp old new exit event RtTurn.Go
   program_names exit event mode t image past control turns within h all = (t image past control turns within h all, by_place (since past lp) refl)
     where
-      goes : GoesTo layout image (TurnFollows layout lp past exit) (at_moment past control turns old) (past_after past lp all exit) new event
-      goes = t image past control turns within h all
-
       by_place : (o : Option ℕ) → since past lp ≡ o → (t image past control turns within h all).control.cause ≡ control.cause
       by_place None e = absurd (let outside : inside past lp ≡ false = ap is_some e in let clash : true ≡ false = sym within ∙ outside in cc)
       by_place (Some place) e =
