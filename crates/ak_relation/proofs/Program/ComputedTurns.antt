@@ -30,7 +30,7 @@ use Rattle.ak_relation.proofs.Exits.SavedPages.{page_is}
 use Rattle.ak_relation.proofs.Leaves.ViewStands.{view-same}
 use Rattle.ak_relation.proofs.Program.WalkedFills.{fills_reached}
 use Rattle.ak_relation.proofs.Program.AwayPages.{away_pages}
-use Rattle.ak_relation.proofs.Program.OwnWords.{flat_whole}
+use Rattle.ak_relation.proofs.Program.Seen.{flat_whole}
 
 module _ (layout : Layout) (past : History) (lp place : ℕ) (flat after : Flat) (old new : State) (is : since past lp ≡ Some place) (h : TablesStand layout past old)
     (program : (p : ℕ) → p < pages layout → OfCopy (copies_at layout past old p) (λ bytes. bytes ≡ page_bytes flat p))
