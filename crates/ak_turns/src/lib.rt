@@ -1,0 +1,7 @@
+//! One turn of a processor that is inside the enclave: an instruction of the program, or a step of the runtime.
+#![tactic(auto)]
+
+mod notes;
+mod program;
+
+pub use notes::{ProgramNote, RuntimeNote, Turned};
