@@ -1,0 +1,6 @@
+-- Lemmas on steps of the runtime.
+pub mod Walking
+pub mod WrittenFrames
+pub mod StepMachines
+pub mod Refusals
+pub mod StepShows
