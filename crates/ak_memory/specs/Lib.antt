@@ -1,1 +1,3 @@
 pub mod Granting
+pub mod Spots
+pub mod Keeping

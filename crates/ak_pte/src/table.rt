@@ -1,6 +1,6 @@
 // The page table as a list of entries.
 ghost use Rattle.std.specs.Prelude.{◌≡◌, ◌<◌, Some, IfOk, length, replicate, slice_get, slice_set};
-ghost use Rattle.ak_pte.specs.Table.{unmapped};
+ghost use Rattle.ak_pte.specs.Table.{pte_at, unmapped};
 
 use ak_core::{Flags, Frame, OutOfMemory, Page};
 use std::alloc::Global;
@@ -71,5 +71,15 @@ impl PageTable {
         ensures { slice_get self.now p.0 ≡ Some result }
     {
         self.entries[p.0 as usize]
+    }
+
+    /// A page's entry. A page that the table does not have is mapped to nothing.
+    pub fn entry(&self, p: Page) -> Pte
+        ensures { result ≡ pte_at self.now p.0 }
+    {
+        self.entries
+            .get(p.0 as usize)
+            .copied()
+            .unwrap_or(Pte::UNMAPPED)
     }
 }
