@@ -1,11 +1,10 @@
 -- The accesses that a turn caches: those that walks found. With what was cached before they are all that were granted.
 use Rattle.std.proofs.Common.{◌≡◌, ℕ, ◌<◌, Bool, true, false, List, [], ◌∷◌, ◌++◌, map, refl, ap, sym, ◌∙◌, subst, inl, inr, arith}
 use Rattle.std.proofs.lemmas.Bool.{and_parts}
-use Rattle.std.proofs.lemmas.List.Folds.{list_any-append, list_all-append}
-use Rattle.std.specs.Prelude.{Option, Some, None, is_some, ◌&&◌, ◌||◌, not, cond, filter, reverse}
-use Rattle.std.specs.Bool.{then_some}
+use Rattle.std.proofs.lemmas.List.{reverse-append}
+use Rattle.std.proofs.lemmas.List.Folds.{list_any-append}
+use Rattle.std.specs.Prelude.{Option, Some, None, is_some, ◌&&◌, ◌||◌, not, filter, reverse}
 use Rattle.std.specs.List.{list_all, list_any}
-use Rattle.std.specs.Option.{option_or}
 use Rattle.ak_core.specs.Layout.{Layout}
 use Rattle.ak_core.specs.Mem.{Access}
 use Rattle.ak_core.specs.declared.page.Entry.{Entry}
@@ -14,9 +13,7 @@ use Rattle.ak_model.proofs.Flat.ProgramPages.{AllLow}
 use Rattle.ak_model.proofs.Misses.EqualAccesses.{access_is}
 use Rattle.ak_model.proofs.Misses.KeptBySet.{filter_among}
 use Rattle.ak_model.specs.Misses.KeptTranslations.{same_access, is_among}
-use Rattle.ak_model.specs.Paging.Holdings.{Mapping}
 use Rattle.ak_model.specs.Paging.Pages.{pages, all_pages}
-use Rattle.ak_pte.specs.Table.{pte_at}
 use Rattle.ak_pte.specs.declared.table.Pte.{Pte}
 use Rattle.ak_relation.proofs.Exits.WalkedReached.{all_among, among_all}
 use Rattle.ak_relation.specs.Premises.CallingOut.{walked_fill}
@@ -30,8 +27,8 @@ use Rattle.ak_tlb.specs.declared.translation.Translation.{Translation}
 use Rattle.ak_encls.specs.Enclave.{Enclave}
 use Rattle.ak_enclu.specs.Machines.{IsMachine}
 use Rattle.ak_enclu.specs.declared.cpu.Cpu.{Cpu}
-use Rattle.ak_memory.specs.Granting.{is_walked, granted_frame, is_granted, walked_of, fill_by}
-use Rattle.ak_turns.proofs.Granted.{granted_by}
+use Rattle.ak_memory.proofs.Cached.{all_walked}
+use Rattle.ak_memory.specs.Granting.{is_walked, is_granted, walked_of}
 use Rattle.ak_turns.proofs.Showing.{walked_in}
 use Rattle.ak_turns.proofs.Walks.{IsKnown, framed_filled}
 
@@ -39,7 +36,7 @@ use Rattle.ak_turns.proofs.Walks.{IsKnown, framed_filled}
 
 -- these are the accesses that walks found of those that were granted
 pub record AreThose (entries : List Entry) (table : List Pte) (cached : List Translation) (granted walked : List Access) : Type 0 where
-  pub found : list_all (is_walked entries table) walked ≡ true
+  pub walks : list_all (is_walked entries table) walked ≡ true
   pub among : (t : Access) → is_among walked t ≡ true → is_among granted t ≡ true
   pub all : (t : Access) → is_among granted t ≡ true → frame_in (found cached t) ≡ None → is_among walked t ≡ true
 
@@ -91,19 +88,9 @@ or_swap true false = refl
 or_swap false true = refl
 or_swap false false = refl
 
-and_swap : (a b : Bool) → (a && (b && true)) ≡ (b && a)
-and_swap true true = refl
-and_swap true false = refl
-and_swap false true = refl
-and_swap false false = refl
-
 any_reverse : (f : Access → Bool) (xs : List Access) → list_any f (reverse xs) ≡ list_any f xs
 any_reverse f [] = refl
-any_reverse f (x ∷ xs) = list_any-append f (reverse xs) (x ∷ []) ∙ or_swap (list_any f (reverse xs)) (f x) ∙ ap (λ b. f x || b) (any_reverse f xs)
-
-all_reverse : (f : Access → Bool) (xs : List Access) → list_all f (reverse xs) ≡ list_all f xs
-all_reverse f [] = refl
-all_reverse f (x ∷ xs) = list_all-append f (reverse xs) (x ∷ []) ∙ and_swap (list_all f (reverse xs)) (f x) ∙ ap (λ b. f x && b) (all_reverse f xs)
+any_reverse f (x ∷ xs) = ap (list_any f) (reverse-append (x ∷ []) xs) ∙ list_any-append f (reverse xs) (x ∷ []) ∙ or_swap (list_any f (reverse xs)) (f x) ∙ ap (λ b. f x || b) (any_reverse f xs)
 
 none_framed : (o : Option Translation) → frame_in o ≡ None → is_some o ≡ false
 none_framed None e = refl
@@ -113,30 +100,10 @@ module _ (entries : List Entry) (table : List Pte) (cached : List Translation) w
   abbrev is_uncached : Access → Bool
   is_uncached t = not (is_some (found cached t))
 
-  -- an access that is granted and not cached is one that a walk finds
-  uncached_walked : (t : Access) → is_uncached t ≡ true → is_granted entries table cached t ≡ true → is_walked entries table t ≡ true
-  uncached_walked t uncached granted = by_found (found cached t) (is_walked entries table t) uncached granted
-    where
-      by_found : (o : Option Translation) (b : Bool) → not (is_some o) ≡ true → is_some (option_or (frame_in o) (then_some b (pte_at table t.page.0).frame)) ≡ true → b ≡ true
-      by_found (Some translation) b uncached granted = cc
-      by_found None true uncached granted = refl
-      by_found None false uncached granted = cc
-
-  uncached_found : (granted : List Access) → list_all (is_granted entries table cached) granted ≡ true → list_all (is_walked entries table) (filter is_uncached granted) ≡ true
-  uncached_found [] all = refl
-  uncached_found (t ∷ granted) all =
-      let parts = and_parts (is_granted entries table cached t) (list_all (is_granted entries table cached) granted) all in
-      by_test (is_uncached t) refl parts.0 (uncached_found granted parts.1)
-    where
-      by_test : (b : Bool) → is_uncached t ≡ b → is_granted entries table cached t ≡ true → list_all (is_walked entries table) (filter is_uncached granted) ≡ true
-          → list_all (is_walked entries table) (cond b (t ∷ filter is_uncached granted) (filter is_uncached granted)) ≡ true
-      by_test true e own rest = let walked = uncached_walked t e own in rw walked rest
-      by_test false e own rest = rest
-
   -- they are those that walks found
   pub are_those : (granted : List Access) → list_all (is_granted entries table cached) granted ≡ true → AreThose entries table cached granted (walked_of cached granted)
   are_those granted all = record {
-    found = all_reverse (is_walked entries table) (filter is_uncached granted) ∙ uncached_found granted all;
+    walks = all_walked entries table cached granted all;
     among = λ t some. and_right (is_uncached t) (is_among granted t) (sym (listed t) ∙ some);
     all = λ t some none. listed t ∙ both_true (is_uncached t) (is_among granted t) (ap not (none_framed (found cached t) none)) some;
   }
@@ -170,4 +137,4 @@ module _ (layout : Layout) (cpu : Cpu) (table : List Pte) (encls : Enclave) (k :
       all_among (λ t. walk_in layout state t.page.0 t.kind) walked
       (λ t some.
       let l : t.page.0 < pages layout = low_among layout granted t low (those.among t some) in
-      sym (walked_in layout cpu table encls k state m t (omega arith)) ∙ among_all (is_walked encls.entries table) walked t those.found some)
+      sym (walked_in layout cpu table encls k state m t (omega arith)) ∙ among_all (is_walked encls.entries table) walked t those.walks some)

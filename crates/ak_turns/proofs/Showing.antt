@@ -1,7 +1,6 @@
 -- A memory shows each flat state that its processor sees; and granted accesses of the program are permitted.
 use Rattle.std.proofs.Common.{◌≡◌, ℕ, ◌+◌, ◌<◌, ◌≤◌, Bool, true, false, List, [], ◌∷◌, length, refl, ap, sym, ◌∙◌, subst, inl, inr, arith}
 use Rattle.std.proofs.lemmas.Bool.{and_parts}
-use Rattle.std.proofs.lemmas.List.{take-append-le, take_all}
 use Rattle.std.specs.Prelude.{Option, Some, None, is_some, ◌&&◌, ◌||◌, not}
 use Rattle.std.specs.List.{list_all, list_any}
 use Rattle.ak_core.specs.Layout.{Layout}
@@ -15,8 +14,7 @@ use Rattle.ak_model.specs.Flat.FlatRuns.{Flat, page_bytes, is_forbidden}
 use Rattle.ak_model.specs.Misses.KeptTranslations.{same_access}
 use Rattle.ak_model.specs.Paging.Holdings.{Mapping}
 use Rattle.ak_model.specs.Paging.Pages.{pages, all_pages, permits}
-use Rattle.ak_epcm.proofs.PageFrames.{frame_with-has}
-use Rattle.ak_epcm.specs.Entries.{entry_at, has_page, frame_with, HasDistinctPages}
+use Rattle.ak_epcm.specs.Entries.{entry_at, has_page, HasDistinctPages}
 use Rattle.ak_pte.specs.Table.{pte_at}
 use Rattle.ak_pte.specs.declared.table.Pte.{Pte}
 use Rattle.ak_relation.specs.Premises.EnterRows.{walk_in}
@@ -24,11 +22,13 @@ use Rattle.ak_relation.specs.Program.Seeing.{SeenFills, Sees}
 use Rattle.ak_relation.specs.State.MachineState.{State}
 use Rattle.ak_tlb.specs.Fills.{Fill, frame_for}
 use Rattle.ak_tlb.specs.Translations.{found, frame_in}
-use Rattle.ak_encls.specs.Enclave.{Enclave, blank_page, frame_at}
+use Rattle.ak_encls.specs.Enclave.{Enclave, frame_at}
 use Rattle.ak_enclu.specs.Machines.{IsMachine}
 use Rattle.ak_enclu.specs.declared.cpu.Cpu.{Cpu}
-use Rattle.ak_memory.specs.Granting.{is_walked, granted_frame, is_granted, is_seen, bytes_found, bytes_of, whole_page}
-use Rattle.ak_turns.proofs.Granted.{IsWalk, IsGrantedIn, granted_by, granted_page, seen_granted}
+use Rattle.ak_memory.proofs.Granted.{granted_has}
+use Rattle.ak_memory.proofs.Putting.{whole_page-is, bytes_in_frame}
+use Rattle.ak_memory.specs.Granting.{is_walked, granted_frame, is_granted, is_seen, bytes_of, whole_page}
+use Rattle.ak_turns.proofs.Granted.{IsWalk, IsGrantedIn, granted_by, seen_granted}
 use Rattle.ak_turns.proofs.Walks.{IsKnown, own_walk, machine_walk}
 
 -- ---- Frames
@@ -37,15 +37,11 @@ use Rattle.ak_turns.proofs.Walks.{IsKnown, own_walk, machine_walk}
 abbrev pub memory_bytes : List (List ℕ) → List Entry → ℕ → List ℕ
 memory_bytes frames entries p = whole_page (bytes_of frames entries p)
 
-whole_is : (bytes : List ℕ) → length bytes ≡ 4096 → whole_page bytes ≡ bytes
-unfolding whole_page
-whole_is bytes size = let le : 4096 ≤ length bytes = omega arith in take-append-le 4096 bytes blank_page le ∙ take_all 4096 bytes (omega arith)
-
 -- the bytes of a page are those of the frame that holds it
-pub bytes_in_frame : (frames : List (List ℕ)) (entries : List Entry) (f p : ℕ) → HasDistinctPages entries → length (frame_at frames f) ≡ 4096
+pub page_in_frame : (frames : List (List ℕ)) (entries : List Entry) (f p : ℕ) → HasDistinctPages entries → length (frame_at frames f) ≡ 4096
     → has_page (entry_at entries f) p ≡ true → memory_bytes frames entries p ≡ frame_at frames f
-bytes_in_frame frames entries f p distinct size has =
-    ap (λ o. whole_page (bytes_found frames o)) (frame_with-has entries f p distinct has) ∙ whole_is (frame_at frames f) size
+page_in_frame frames entries f p distinct size has =
+    ap whole_page (bytes_in_frame frames entries f p distinct has) ∙ whole_page-is (frame_at frames f) size
 
 module _ (layout : Layout) (cpu : Cpu) (table : List Pte) (encls : Enclave) (k : IsKnown layout cpu table encls) where
   -- ---- Permissions
@@ -118,7 +114,7 @@ module _ (layout : Layout) (cpu : Cpu) (table : List Pte) (encls : Enclave) (k :
     pub shows : (flat : Flat) → Sees layout state cpu.lp.0 flat → Shows layout (is_seen encls.entries table cpu.tlb) (memory_bytes encls.frames encls.entries) flat
     shows flat sees p low seen =
         let by : IsGrantedIn (λ kind. granted_frame encls.entries table cpu.tlb (access_to p kind)) = seen_granted encls.entries table cpu.tlb p seen in
-        bytes_in_frame encls.frames encls.entries by.frame.0 p k.distinct (k.whole by.frame.0)
-        (granted_page encls.entries table cpu.tlb (access_to p by.kind) by.frame k.named by.is)
+        page_in_frame encls.frames encls.entries by.frame.0 p k.distinct (k.whole by.frame.0)
+        (granted_has encls.entries table cpu.tlb (access_to p by.kind) by.frame k.named by.is)
         ∙ sym (m.paging.frames by.frame.0)
         ∙ frame_bytes flat sees (access_to p by.kind) by.frame low by.is

@@ -29,7 +29,7 @@ use Rattle.ak_enclu.specs.declared.cpu.Cpu.{Cpu}
 use Rattle.ak_memory.specs.Granting.{is_granted, is_seen}
 use Rattle.ak_memory.specs.Keeping.{KeepsFrames}
 use Rattle.ak_turns.proofs.Granted.{unseen_unwritable, unseen_apart}
-use Rattle.ak_turns.proofs.Showing.{memory_bytes, bytes_in_frame, none_forbidden, shows}
+use Rattle.ak_turns.proofs.Showing.{memory_bytes, page_in_frame, none_forbidden, shows}
 use Rattle.ak_turns.proofs.Walks.{IsKnown}
 
 -- ---- The page that a frame holds
@@ -76,10 +76,10 @@ module _ (layout : Layout) (cpu : Cpu) (table : List Pte) (encls new : Enclave) 
   new_whole g = kept.lengths g ∙ k.whole g
 
   new_bytes : (f p : ℕ) → has_page (entry_at encls.entries f) p ≡ true → memory_bytes new.frames encls.entries p ≡ frame_at new.frames f
-  new_bytes f p has = bytes_in_frame new.frames encls.entries f p k.distinct (new_whole f) has
+  new_bytes f p has = page_in_frame new.frames encls.entries f p k.distinct (new_whole f) has
 
   old_bytes : (f p : ℕ) → has_page (entry_at encls.entries f) p ≡ true → memory_bytes encls.frames encls.entries p ≡ frame_at encls.frames f
-  old_bytes f p has = bytes_in_frame encls.frames encls.entries f p k.distinct (k.whole f) has
+  old_bytes f p has = page_in_frame encls.frames encls.entries f p k.distinct (k.whole f) has
 
   unwritten_frame : (f p : ℕ) → has_page (entry_at encls.entries f) p ≡ true → is_writable granted p ≡ false → frame_at new.frames f ≡ frame_at encls.frames f
   unwritten_frame f p has none = sym (new_bytes f p has) ∙ unwritten p none ∙ old_bytes f p has
