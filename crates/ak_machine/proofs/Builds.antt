@@ -17,7 +17,7 @@ use Rattle.ak_epcm.specs.Entries.{frame_with}
 use Rattle.ak_machine.specs.State.{State}
 use Rattle.ak_machine.specs.Built.{MapsEach, FillsEach, page_held, bytes_held, IsBuilt, HoldsPages}
 use Rattle.ak_machine.proofs.Held.{distinct_held, held_there, frame_low, has_held, held_has}
-use Rattle.ak_machine.proofs.Frames.{frame_with-has}
+use Rattle.ak_epcm.proofs.PageFrames.{frame_with-has}
 
 -- the state of a machine before any move
 abbrev pub state_built : Regs → List Pte → List Entry → Frames → State

@@ -1,24 +1,21 @@
 -- Pages in frames, found by the tables.
 use Rattle.std.proofs.Math.Path.{fun_ext}
 use Rattle.std.proofs.Common.{◌≡◌, ◌≢◌, ℕ, ◌<◌, Bool, true, false, ◌&&◌, ◌||◌, ◌==◌, List, [], ◌∷◌, length, set, refl, sym, ◌∙◌, ap, subst, inl, inr, arith, slice_set, get_or}
-use Rattle.std.proofs.lemmas.Bool.{cases_lt, eqb-true}
+use Rattle.std.proofs.lemmas.Bool.{eqb-true}
 use Rattle.std.proofs.lemmas.Bool.Decides.{eqb_tells, nat_tests}
 use Rattle.std.proofs.lemmas.Grind.{common_steps}
-use Rattle.std.proofs.lemmas.List.Quantifiers.{position-Some}
-use Rattle.std.proofs.lemmas.List.Sums.{passes_at_first, fails_before_first}
 use Rattle.std.proofs.lemmas.Option.{gets, slice_get_read}
 use Rattle.std.specs.Prelude.{Option, Some, None, Vec, slice_get, nat_lt, if◌then◌else◌}
-use Rattle.std.specs.List.{position_or_len, list_all}
+use Rattle.std.specs.List.{list_all}
 use Rattle.std.specs.declared.alloc.Global.{Global}
 use Rattle.ak_core.specs.Mem.{Access, is_touched, is_writable, is_write, with_page}
 use Rattle.ak_core.specs.declared.page.Entry.{Entry}
-use Rattle.ak_epcm.specs.Entries.{entry_at, free_entry, is_of_page, has_page, HasNoFrame, HasDistinctPages}
-use Rattle.ak_epcm.proofs.EntryLists.{valid_in_range}
+use Rattle.ak_epcm.specs.Entries.{entry_at, has_page, frame_with}
+use Rattle.ak_epcm.proofs.PageFrames.{frame_with-holds, has_one}
 use Rattle.ak_walk.proofs.Bridge.{walk_finds-has_page}
 use Rattle.ak_machine.specs.Memory.{Tables, Frames, IsWhole, bytes_in, frame_bytes, bytes_found, bytes_of, finds}
-use Rattle.ak_epcm.specs.Entries.{frame_with}
 
--- ---- The frame that holds a page
+-- ---- Parts
 
 and_left : (a b : Bool) → (a && b) ≡ true → a ≡ true
 and_left true b h = refl
@@ -27,40 +24,6 @@ and_left false b h = h
 and_right : (a b : Bool) → (a && b) ≡ true → b ≡ true
 and_right true b h = h
 and_right false b h = cc
-
--- a frame that holds a page is one of the page cache
-pub has_page_in_range : (entries : List Entry) (f p : ℕ) → has_page (entry_at entries f) p ≡ true → f < length entries
-has_page_in_range entries f p h =
-    let e = entry_at entries f in
-    valid_in_range entries f (and_left _ _ (and_left (is_of_page e) (e.page.0 == p) h))
-
-position_is : (n l : ℕ) → n < l → (if nat_lt n l then Some n else None) ≡ Some n
-position_is n l h = let t : nat_lt n l ≡ true = grind (arith, nat_tests) in rw t refl
-
--- the frame that holds the page is found
-pub frame_with-has : (entries : List Entry) (f p : ℕ) → HasDistinctPages entries → has_page (entry_at entries f) p ≡ true → frame_with entries p ≡ Some f
-frame_with-has entries f p distinct h =
-    let P : Entry → Bool = λ e. has_page e p in
-    let n = position_or_len P entries in
-    let inside : f < length entries = has_page_in_range entries f p h in
-    elim (cases_lt n (length entries)) [
-      | inl lt ↦ position_is n (length entries) lt ∙ ap Some (distinct n f p (passes_at_first P entries free_entry lt) h)
-      | inr ge ↦ let wrong : false ≡ true = sym (fails_before_first P entries f free_entry (omega arith)) ∙ h in cc
-    ]
-
--- the frame that is found holds the page
-pub frame_with-holds : (entries : List Entry) (f p : ℕ) → frame_with entries p ≡ Some f → (f < length entries) × (has_page (entry_at entries f) p ≡ true)
-frame_with-holds entries f p is =
-    let s = position-Some (λ e. has_page e p) entries f free_entry is in (s.0, s.1)
-
--- no frame holds the page
-pub frame_with-none : (entries : List Entry) (p : ℕ) (o : Option ℕ) → frame_with entries p ≡ o → HasNoFrame entries p → o ≡ None
-frame_with-none entries p None is none = refl
-frame_with-none entries p (Some f) is none = let has = (frame_with-holds entries f p is).1 in let not = none f in cc
-
--- two pages are not in one frame
-has_one : (e : Entry) (p q : ℕ) → has_page e p ≡ true → has_page e q ≡ true → q ≡ p
-has_one e p q h k = sym (eqb-true _ _ (and_right (is_of_page e) (e.page.0 == q) k)) ∙ eqb-true _ _ (and_right (is_of_page e) (e.page.0 == p) h)
 
 -- the bytes of a frame that was read
 pub frame_bytes-read : (frames : Frames) (i : ℕ) (page : Vec ℕ Global) → i < length frames → page ≡ get_or frames i page → frame_bytes frames i ≡ page.items

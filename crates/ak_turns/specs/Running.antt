@@ -5,17 +5,16 @@ use Rattle.ak_core.specs.Layout.{Layout}
 use Rattle.ak_core.specs.Mem.{Access}
 use Rattle.ak_core.specs.declared.event.Event.{Event}
 use Rattle.ak_core.specs.declared.event.Event.TheVariants.{Break, Call, Miss, Trap}
-use Rattle.ak_core.specs.declared.moves.Exit.{Exit}
 use Rattle.ak_model.specs.Clusters.Queue.{is_in}
-use Rattle.ak_model.specs.Control.ControlState.{Cause, Control, first_cause}
-use Rattle.ak_model.specs.Control.RuntimeTurn.{stuck_cause}
+use Rattle.ak_model.specs.Control.ControlState.{Control}
 use Rattle.ak_model.specs.Flat.FlatRuns.{is_forbidden}
 use Rattle.ak_model.specs.Paging.Histories.{History}
 use Rattle.ak_model.specs.Paging.Inside.{inside}
 use Rattle.ak_model.specs.Paging.Pages.{cluster_at}
 use Rattle.ak_model.specs.Tapes.ProgramTurns.{ProgramTurn}
-use Rattle.ak_relation.specs.Premises.Works.{named_by}
-use Rattle.ak_relation.specs.Relation.Does.{GoesTo, IsTurn, TurnFollows, at_moment, past_after}
+use Rattle.ak_pager.specs.declared.turn.RtTurn.{RtTurn}
+use Rattle.ak_relation.specs.Relation.Causes.{NamesCause}
+use Rattle.ak_relation.specs.Relation.Does.{IsTurn, at_moment}
 use Rattle.ak_relation.specs.Relation.Stands.{Stands}
 use Rattle.ak_relation.specs.State.MachineState.{State}
 use Rattle.ak_enclu.specs.Machines.{IsMachine}
@@ -61,19 +60,11 @@ event_of layout queue count (ProgramNote.Faulted t) = Some (fault_event layout q
 abbrev pub completed_in : Bool → ℕ
 completed_in completed = if completed then 1 else 0
 
--- the cause of death after a turn, by what the runtime did: the first stays; the enclave dies of one, or is stuck at the third fault
-abbrev pub cause_by : RuntimeNote → Control → Option Cause
-cause_by RuntimeNote.Quiet control = control.cause
-cause_by (RuntimeNote.Faulted t) control = stuck_cause control t
-cause_by (RuntimeNote.Dead cause) control = first_cause control.cause (named_by cause)
-
--- a turn leads from each moment at which the old machine stands to one at which the new one does, with the cause that the note names
-abbrev pub NamesCauseBy : Layout → ℕ → State → State → Option Exit → Option Event → RuntimeNote → Type 0
-NamesCauseBy layout lp old new exit event note =
-    (image : List ℕ) (past : History) (control : Control) (turns : List ProgramTurn) → inside past lp ≡ true →
-    Stands layout image (at_moment past control turns old) → (all : ℕ) →
-    (goes : GoesTo layout image (TurnFollows layout lp past exit) (at_moment past control turns old) (past_after past lp all exit) new event)
-    × (goes.control.cause ≡ cause_by note control)
+-- the outcome of the runtime's step that the note tells
+abbrev pub outcome_of : RuntimeNote → RtTurn
+outcome_of RuntimeNote.Quiet = RtTurn.Go
+outcome_of (RuntimeNote.Faulted t) = RtTurn.Faulted t
+outcome_of (RuntimeNote.Dead cause) = RtTurn.Dead cause
 
 -- ---- A turn
 
@@ -85,4 +76,4 @@ pub record TurnsTo (layout : Layout) (lp : ℕ) (old : State) (turned : Turned) 
   pub others : (q : ℕ) → (q == lp) ≡ false → new.processors q ≡ old.processors q
   pub count : new.count ≡ old.count + completed_in turned.completed
   pub turn : IsTurn layout lp old new turned.exit (event_of layout old.queue old.count turned.program)
-  pub cause : NamesCauseBy layout lp old new turned.exit (event_of layout old.queue old.count turned.program) turned.runtime
+  pub cause : NamesCause layout lp old new turned.exit (event_of layout old.queue old.count turned.program) (outcome_of turned.runtime)

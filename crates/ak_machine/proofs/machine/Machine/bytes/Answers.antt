@@ -2,7 +2,8 @@ use Rattle.std.proofs.Common.{◌∙◌, ◌<◌, length, ap, sym, arith, refl}
 use Rattle.std.specs.Prelude.{is_some}
 use Rattle.ak_machine.specs.Memory.{bytes_found}
 use Rattle.ak_epcm.specs.Entries.{frame_with}
-use Rattle.ak_machine.proofs.Frames.{frame_with-has, frame_with-none, frame_bytes-read}
+use Rattle.ak_epcm.proofs.PageFrames.{frame_with-has, frame_with-none}
+use Rattle.ak_machine.proofs.Frames.{frame_bytes-read}
 use Rattle.ak_machine.proofs.machine.Machine.bytes.Goals as goal
 
 pub returns-in-Some-clause-held : goal.returns-in-Some-clause-held

@@ -5,7 +5,8 @@ use Rattle.ak_pte.specs.declared.table.Pte.{Pte}
 use Rattle.ak_epcm.specs.Entries.{entry_at, has_page}
 use Rattle.ak_machine.specs.Memory.{tables_of}
 use Rattle.ak_pte.specs.Table.{pte_at}
-use Rattle.ak_machine.proofs.Frames.{touched_mapped, frame_with-has, has_page_in_range}
+use Rattle.ak_epcm.proofs.PageFrames.{frame_with-has, has_page_in_range}
+use Rattle.ak_machine.proofs.Frames.{touched_mapped}
 use Rattle.ak_machine.proofs.memory.Memory.place_of.Goals as goal
 
 pub get-requires : goal.get-requires

@@ -1,7 +1,8 @@
 use Rattle.std.proofs.Common.{◌≡◌, ap, ◌∙◌, sym, true, refl}
 use Rattle.std.specs.Prelude.{is_some}
 use Rattle.ak_machine.specs.Memory.{tables_of, finds}
-use Rattle.ak_machine.proofs.Frames.{finds_mapped, frame_with-has}
+use Rattle.ak_epcm.proofs.PageFrames.{frame_with-has}
+use Rattle.ak_machine.proofs.Frames.{finds_mapped}
 use Rattle.ak_machine.proofs.memory.Memory.touch.Goals as goal
 
 pub returns-then-is_found-clause-touch : goal.returns-then-is_found-clause-touch
