@@ -4,3 +4,5 @@ pub mod WrittenFrames
 pub mod StepMachines
 pub mod Refusals
 pub mod StepShows
+pub mod OwnMachine
+pub mod RuntimeTurns

@@ -1,7 +1,6 @@
 -- A step of the runtime as a turn: what the machine shows of it.
 use Rattle.std.proofs.Common.{◌≡◌, ℕ, ◌<◌, ◌≤◌, ◌+◌, Bool, true, false, List, [], ◌∷◌, refl, ap, sym, ◌∙◌, subst}
 use Rattle.std.specs.Prelude.{Option, Some, None}
-use Rattle.std.specs.List.{list_all}
 use Rattle.ak_core.specs.Layout.{Layout}
 use Rattle.ak_core.specs.Mem.{Access}
 use Rattle.ak_core.specs.declared.registers.Mode.{Mode}
@@ -10,7 +9,6 @@ use Rattle.ak_model.specs.Control.ControlState.{Context, Control}
 use Rattle.ak_model.specs.Flat.FlatRuns.{Flat}
 use Rattle.ak_model.specs.Paging.Histories.{History}
 use Rattle.ak_pte.specs.declared.table.Pte.{Pte}
-use Rattle.ak_pager.specs.Effects.{StepsAlways}
 use Rattle.ak_pager.specs.StepsTo.{memory_of, MayStep, StepsTo}
 use Rattle.ak_pager.specs.declared.turn.RtTurn.{RtTurn}
 use Rattle.ak_ssa.specs.SavedFrames.{ByPage}
@@ -24,16 +22,9 @@ use Rattle.ak_relation.specs.State.Tables.{TablesStand}
 use Rattle.ak_encls.specs.Enclave.{Enclave, frame_at}
 use Rattle.ak_enclu.specs.Machines.{IsMachine}
 use Rattle.ak_enclu.specs.declared.cpu.Cpu.{Cpu}
-use Rattle.ak_memory.specs.Granting.{is_walked, is_seen}
-use Rattle.ak_turns.proofs.Steps.WrittenFrames.{IsStepMemory, changed, memory_sees, writes, tables_kept}
-
--- what a step came to, over a memory that walks
-pub record StepDone (layout : Layout) (cpu : Cpu) (table : List Pte) (encls : Enclave) (new : List (List ℕ)) (before after : ℕ → List ℕ) (granted : List Access) (refused : Option Access) (outcome : RtTurn) (regs : Regs) : Type 0 where
-  pub mode : cpu.regs.mode ≡ Mode.Runtime
-  pub memory : IsStepMemory encls.entries table encls.frames new before after
-  pub found : list_all (is_walked encls.entries table) granted ≡ true
-  pub lost : (t : Access) → refused ≡ Some t → is_walked encls.entries table t ≡ false
-  pub steps : StepsAlways layout cpu.regs (λ p. is_seen encls.entries table [] p) before after granted refused outcome regs
+use Rattle.ak_memory.specs.Granting.{is_seen}
+use Rattle.ak_turns.specs.Stepping.{StepDone}
+use Rattle.ak_turns.proofs.Steps.WrittenFrames.{changed, memory_sees, writes, tables_kept}
 
 module _ (layout : Layout) (cpu : Cpu) (table : List Pte) (encls : Enclave) (state : State) (m : IsMachine layout cpu table encls state)
     (new : List (List ℕ)) (before after : ℕ → List ℕ) (granted : List Access) (refused : Option Access) (outcome : RtTurn) (regs : Regs)

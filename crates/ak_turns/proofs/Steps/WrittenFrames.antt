@@ -23,15 +23,8 @@ use Rattle.ak_encls.specs.Enclave.{Enclave, frame_at}
 use Rattle.ak_enclu.specs.Machines.{IsMachine}
 use Rattle.ak_enclu.specs.declared.cpu.Cpu.{Cpu}
 use Rattle.ak_memory.specs.Granting.{is_walked, is_seen}
+use Rattle.ak_turns.specs.Stepping.{IsStepMemory}
 use Rattle.ak_turns.proofs.Steps.Walking.{seen_walked, seen_page, walked_seen, holds_by, walked_low, walked_walkable, unwalked_unwalkable}
-
--- pages and frames before and after a step over a memory that sees what walks find
-pub record IsStepMemory (entries : List Entry) (table : List Pte) (old new : List (List ℕ)) (before after : ℕ → List ℕ) : Type 0 where
-  pub before_is : (f p : ℕ) → has_page (entry_at entries f) p ≡ true → before p ≡ frame_at old f
-  pub after_is : (f p : ℕ) → has_page (entry_at entries f) p ≡ true → after p ≡ frame_at new f
-  pub unseen : (f p : ℕ) → has_page (entry_at entries f) p ≡ true → is_seen entries table [] p ≡ false → frame_at new f ≡ frame_at old f
-  pub others : (f : ℕ) → is_of_page (entry_at entries f) ≡ false → frame_at new f ≡ frame_at old f
-  pub whole : (f : ℕ) → length (frame_at new f) ≡ 4096
 
 -- where no page's bytes differ, no frame's do
 pub frames_stay : (entries : List Entry) (table : List Pte) (old new : List (List ℕ)) (before after : ℕ → List ℕ) → IsStepMemory entries table old new before after → after ≡ before →
@@ -71,7 +64,7 @@ module _ (layout : Layout) (past : History) (cpu : Cpu) (table : List Pte) (encl
       ap state.frames (frame_is p seen) ∙ m.paging.frames f ∙ sym (s.before_is f p (seen_page encls.entries table p seen))
 
   -- the bytes before
-  memory : IsMemory layout past state sees before
+  pub memory : IsMemory layout past state sees before
   memory p seen = ap (copy state) (h.one_copy.placed p (state.table p).frame (found p seen)) ∙ ap Some (read p seen)
 
   all_found : (granted : List Access) → list_all (is_walked encls.entries table) granted ≡ true → AreFound layout past sees granted
