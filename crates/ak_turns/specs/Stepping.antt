@@ -14,12 +14,10 @@ use Rattle.ak_encls.specs.Enclave.{Enclave, frame_at}
 use Rattle.ak_enclu.specs.declared.cpu.Cpu.{Cpu}
 use Rattle.ak_memory.specs.Granting.{is_walked, is_seen}
 
--- the bytes of pages before and after are those of the frames that hold them; a frame of a page that no walk finds, or of no page of the
--- enclave, stays
-pub record IsStepMemory (entries : List Entry) (table : List Pte) (old new : List (List ℕ)) (before after : ℕ → List ℕ) : Type 0 where
+-- the bytes of pages before and after are those of the frames that hold them; a frame of no page of the enclave stays, and all are whole
+pub record IsStepMemory (entries : List Entry) (old new : List (List ℕ)) (before after : ℕ → List ℕ) : Type 0 where
   pub before_is : (f p : ℕ) → has_page (entry_at entries f) p ≡ true → before p ≡ frame_at old f
   pub after_is : (f p : ℕ) → has_page (entry_at entries f) p ≡ true → after p ≡ frame_at new f
-  pub unseen : (f p : ℕ) → has_page (entry_at entries f) p ≡ true → is_seen entries table [] p ≡ false → frame_at new f ≡ frame_at old f
   pub others : (f : ℕ) → is_of_page (entry_at entries f) ≡ false → frame_at new f ≡ frame_at old f
   pub whole : (f : ℕ) → length (frame_at new f) ≡ 4096
 
@@ -27,7 +25,7 @@ pub record IsStepMemory (entries : List Entry) (table : List Pte) (old new : Lis
 -- outcome and these registers
 pub record StepDone (layout : Layout) (cpu : Cpu) (table : List Pte) (encls : Enclave) (new : List (List ℕ)) (before after : ℕ → List ℕ) (granted : List Access) (refused : Option Access) (outcome : RtTurn) (regs : Regs) : Type 0 where
   pub mode : cpu.regs.mode ≡ Mode.Runtime
-  pub memory : IsStepMemory encls.entries table encls.frames new before after
+  pub memory : IsStepMemory encls.entries encls.frames new before after
   pub found : list_all (is_walked encls.entries table) granted ≡ true
   pub lost : (t : Access) → refused ≡ Some t → is_walked encls.entries table t ≡ false
   pub steps : StepsAlways layout cpu.regs (λ p. is_seen encls.entries table [] p) before after granted refused outcome regs

@@ -75,8 +75,8 @@ module _ (layout : Layout) (cpu : Cpu) (memory : Memory) (r : Runs layout cpu me
     abbrev holds : ℕ → Bool
     holds p = is_seen memory.encls.entries memory.table [] p
 
-    idle : IsStepMemory memory.encls.entries memory.table memory.encls.frames memory.encls.frames bytes bytes
-    idle = record { before_is = bytes_are; after_is = bytes_are; unseen = λ f p has gone. refl; others = λ f away. refl; whole = frames_whole }
+    idle : IsStepMemory memory.encls.entries memory.encls.frames memory.encls.frames bytes bytes
+    idle = record { before_is = bytes_are; after_is = bytes_are; others = λ f away. refl; whole = frames_whole }
 
     sees : IsMemory layout r.past r.state holds bytes
     sees = seen_memory layout r.past (record cpu { tlb = memory.tlb }) memory.table memory.encls r.state r.stands.tables r.machine memory.encls.frames bytes bytes idle

@@ -37,7 +37,7 @@ use Rattle.ak_memory.specs.declared.memory.Memory.{Memory}
 use Rattle.ak_turns.specs.Running.{IsRunning, Runs}
 use Rattle.ak_turns.specs.Stepping.{StepDone, HasStepped}
 use Rattle.ak_turns.proofs.Steps.OwnMachine.{OwnFrames, valid, frames_whole, own_frames, at, may}
-use Rattle.ak_turns.proofs.Steps.Refusals.{AreHeld, faulted_refused, refused_faulted}
+use Rattle.ak_turns.proofs.Steps.Refusals.{AreHeld, faulted_refused, refused_faulted, unheld_stays}
 use Rattle.ak_turns.proofs.Steps.StepMachines.{moved_on, moved_machine, goes_on, HasQuit, has_quit}
 use Rattle.ak_turns.proofs.Steps.StepShows.{shows_done, shows_refused}
 use Rattle.ak_turns.proofs.Steps.Walking.{walked_seen}
@@ -93,6 +93,12 @@ module _ (layout : Layout) (cpu : Cpu) (memory : Memory) (r : Runs layout cpu me
       faulted_refused layout (valid layout cpu memory r) r.control r.stands.bytes.flat cpu.regs (λ p. is_seen memory.encls.entries memory.table [] p) s.before s.after its_at.context its_may
       s.granted (all_held memory.encls memory.table s.granted done.found) outcome regs s.refused t its_steps e
 
+  -- a page that no walk finds keeps its bytes
+  unseen : (p : ℕ) → is_seen memory.encls.entries memory.table [] p ≡ false → s.after p ≡ s.before p
+  unseen p gone =
+      unheld_stays layout (valid layout cpu memory r) r.control r.stands.bytes.flat cpu.regs (λ q. is_seen memory.encls.entries memory.table [] q) s.before s.after its_at.context its_may
+      s.granted (all_held memory.encls memory.table s.granted done.found) outcome regs s.refused its_steps p gone
+
   module _ (state : State) (m : IsRunning layout cpu memory state) where
     -- as it shows, so it turns
     turns : (end : State) (cpu' : Cpu) (encls' : Enclave) → IsMachine layout cpu' memory.table encls' end → ((q : ℕ) → (q == cpu.lp.0) ≡ false → end.processors q ≡ state.processors q) →
@@ -115,7 +121,7 @@ module _ (layout : Layout) (cpu : Cpu) (memory : Memory) (r : Runs layout cpu me
         turns end after new
         (subst (λ (encls : Enclave). IsMachine layout after memory.table encls end) (sym s.rest) (moved_machine layout before memory.table memory.encls state m regs new.frames))
         on.others refl
-        (shows_done layout before memory.table memory.encls state m new.frames s.before s.after s.granted s.refused outcome regs done end.processors state.track
+        (shows_done layout before memory.table memory.encls state m new.frames s.before s.after s.granted s.refused outcome regs done unseen end.processors state.track
         (subst (λ o. Ends cpu.lp.0 o regs state end) (sym e) on) (λ t refused. absurd (let clash : RtTurn.Go ≡ RtTurn.Faulted t = sym e ∙ refused_is t refused in cc)))
 
     -- ---- It leaves
@@ -128,7 +134,7 @@ module _ (layout : Layout) (cpu : Cpu) (memory : Memory) (r : Runs layout cpu me
         (rest ∙ ap (λ (e : Enclave). record e { track = left.track }) s.rest) (subst (λ (e : Enclave). Steps e left (LeavesBy cpu.lp.0)) s.rest (λ lps marks holds. steps lps marks holds)) in
         let quits = q.quits in
         turns _ (outside_now after) left q.machine quits.others refl
-        (shows_done layout before memory.table memory.encls state m new.frames s.before s.after s.granted s.refused outcome regs done q.end.processors q.end.track
+        (shows_done layout before memory.table memory.encls state m new.frames s.before s.after s.granted s.refused outcome regs done unseen q.end.processors q.end.track
         (ends _ quits) (λ t refused. never t (refused_is t refused)))
 
     -- ---- An access was refused
@@ -139,7 +145,7 @@ module _ (layout : Layout) (cpu : Cpu) (memory : Memory) (r : Runs layout cpu me
 
       same_frames : (f : ℕ) → frame_at new.frames f ≡ frame_at memory.encls.frames f
       same_frames f =
-          frames_stay memory.encls.entries memory.table memory.encls.frames new.frames s.before s.after done.memory (its_steps.faults t refused).1 f
+          frames_stay memory.encls.entries memory.encls.frames new.frames s.before s.after done.memory (its_steps.faults t refused).1 f
 
       same_regs : regs ≡ cpu.regs
       same_regs = (its_steps.faults t refused).2

@@ -45,9 +45,9 @@ module _ (layout : Layout) (cpu : Cpu) (table : List Pte) (encls : Enclave) (sta
   sees past h = memory_sees layout past cpu table encls state h m new before after d.memory granted refused d.found d.lost
 
   -- no access was refused: the processor goes on, or has left
-  pub shows_done : (processors : ℕ → Processor) (track : List TrackStep) → Ends cpu.lp.0 outcome regs state (changed state processors track (frame_at new)) → ((t : Access) → refused ≡ Some t → ⊥) →
+  pub shows_done : ((p : ℕ) → holds p ≡ false → after p ≡ before p) → (processors : ℕ → Processor) (track : List TrackStep) → Ends cpu.lp.0 outcome regs state (changed state processors track (frame_at new)) → ((t : Access) → refused ≡ Some t → ⊥) →
       ShowsStep layout cpu.lp.0 state (changed state processors track (frame_at new)) outcome
-  shows_done processors track ends never = record {
+  shows_done unseen processors track ends never = record {
     mode = runtime_mode;
     holds = holds;
     before = before;
@@ -58,8 +58,8 @@ module _ (layout : Layout) (cpu : Cpu) (table : List Pte) (encls : Enclave) (sta
     steps = steps;
     sees = sees;
     works = λ none past h. record {
-      writes = writes layout past cpu table encls state h m new before after d.memory processors track;
-      kept = tables_kept layout past cpu table encls state h m new before after d.memory processors track;
+      writes = writes layout past cpu table encls state h m new before after d.memory unseen processors track;
+      kept = tables_kept layout past cpu table encls state h m new before after d.memory unseen processors track;
       ends = ends;
     };
     faults = λ t e saved pending says. absurd (never t e);

@@ -27,9 +27,8 @@ use Rattle.ak_turns.specs.Stepping.{IsStepMemory}
 use Rattle.ak_turns.proofs.Steps.Walking.{seen_walked, seen_page, walked_seen, holds_by, walked_low, walked_walkable, unwalked_unwalkable}
 
 -- where no page's bytes differ, no frame's do
-pub frames_stay : (entries : List Entry) (table : List Pte) (old new : List (List ℕ)) (before after : ℕ → List ℕ) → IsStepMemory entries table old new before after → after ≡ before →
-    (f : ℕ) → frame_at new f ≡ frame_at old f
-frames_stay entries table old new before after s same f = by_entry (is_of_page (entry_at entries f)) refl
+pub frames_stay : (entries : List Entry) (old new : List (List ℕ)) (before after : ℕ → List ℕ) → IsStepMemory entries old new before after → after ≡ before → (f : ℕ) → frame_at new f ≡ frame_at old f
+frames_stay entries old new before after s same f = by_entry (is_of_page (entry_at entries f)) refl
   where
     by_entry : (b : Bool) → is_of_page (entry_at entries f) ≡ b → frame_at new f ≡ frame_at old f
     by_entry false e = s.others f e
@@ -43,7 +42,7 @@ abbrev pub changed : State → (ℕ → Processor) → List TrackStep → (ℕ �
 changed state processors track frames = record state { processors = processors; track = track; frames = frames }
 
 module _ (layout : Layout) (past : History) (cpu : Cpu) (table : List Pte) (encls : Enclave) (state : State) (h : TablesStand layout past state) (m : IsMachine layout cpu table encls state)
-    (new : List (List ℕ)) (before after : ℕ → List ℕ) (s : IsStepMemory encls.entries table encls.frames new before after) where
+    (new : List (List ℕ)) (before after : ℕ → List ℕ) (s : IsStepMemory encls.entries encls.frames new before after) where
   -- the pages that it sees
   abbrev pub sees : ℕ → Bool
   sees p = is_seen encls.entries table [] p
@@ -85,7 +84,7 @@ module _ (layout : Layout) (past : History) (cpu : Cpu) (table : List Pte) (encl
       MemorySees layout past sees before granted refused state
   memory_sees granted refused all lost = record { memory = memory; found = all_found granted all; lost = none_found refused lost }
 
-  module _ (processors : ℕ → Processor) (track : List TrackStep) where
+  module _ (unseen : (p : ℕ) → sees p ≡ false → after p ≡ before p) (processors : ℕ → Processor) (track : List TrackStep) where
     -- the machine after it
     abbrev left : State
     left = changed state processors track (frame_at new)
@@ -95,7 +94,7 @@ module _ (layout : Layout) (past : History) (cpu : Cpu) (table : List Pte) (encl
       where
         by_page : (p : ℕ) → has_page (entry_at encls.entries g) p ≡ true → (b : Bool) → sees p ≡ b → frame_at new g ≡ frame_at encls.frames g
         by_page p has true e = absurd (none p e (holds_by layout past cpu table encls state h m g p has))
-        by_page p has false e = s.unseen g p has e
+        by_page p has false e = sym (s.after_is g p has) ∙ unseen p e ∙ s.before_is g p has
 
         by_entry : (b : Bool) → is_of_page (entry_at encls.entries g) ≡ b → frame_at new g ≡ frame_at encls.frames g
         by_entry false e = s.others g e
