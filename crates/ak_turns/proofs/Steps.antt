@@ -6,3 +6,4 @@ pub mod Refusals
 pub mod StepShows
 pub mod OwnMachine
 pub mod RuntimeTurns
+pub mod StepTold
