@@ -8,3 +8,4 @@ pub mod Written
 pub mod Completed
 pub mod Ended
 pub mod Turning
+pub mod Keeping
