@@ -1,10 +1,11 @@
 -- A turn of a processor that is inside, of a machine whose memory has the translations that this processor has cached: it is a turn of
 -- the definitions.
-use Rattle.std.specs.Prelude.{◌≡◌, ℕ, ◌+◌, Bool, true, false, List, Option, Some, None, ◌==◌, if◌then◌else◌}
+use Rattle.std.specs.Prelude.{◌≡◌, ℕ, ◌+◌, Bool, true, false, List, [], Option, Some, None, IsSome, is_none, ◌==◌, if◌then◌else◌}
 use Rattle.ak_core.specs.Layout.{Layout}
 use Rattle.ak_core.specs.Mem.{Access}
 use Rattle.ak_core.specs.declared.event.Event.{Event}
 use Rattle.ak_core.specs.declared.event.Event.TheVariants.{Break, Call, Miss, Trap}
+use Rattle.ak_core.specs.declared.moves.Exit.{Exit}
 use Rattle.ak_model.specs.Clusters.Queue.{is_in}
 use Rattle.ak_model.specs.Control.ControlState.{Control}
 use Rattle.ak_model.specs.Flat.FlatRuns.{is_forbidden}
@@ -77,3 +78,13 @@ pub record TurnsTo (layout : Layout) (lp : ℕ) (old : State) (turned : Turned) 
   pub count : new.count ≡ old.count + completed_in turned.completed
   pub turn : IsTurn layout lp old new turned.exit (event_of layout old.queue old.count turned.program)
   pub cause : NamesCause layout lp old new turned.exit (event_of layout old.queue old.count turned.program) (outcome_of turned.runtime)
+
+-- what a turn with this exit leaves: the processor is outside where it left, holds the frames that it held, and is the one that it was;
+-- and of the memory's parts only bytes of frames and tracking differ, but for what is cached
+pub record TurnKeeps (exit : Option Exit) (cpu cpu' : Cpu) (old new : Memory) : Type 0 where
+  pub cpu_is : cpu' ≡ record cpu { regs = cpu'.regs; inside = is_none exit; tlb = cpu'.tlb }
+  pub uncached : cpu.tlb ≡ [] → cpu'.tlb ≡ []
+  pub flushed : IsSome exit → new.tlb ≡ []
+  pub table : new.table ≡ old.table
+  pub encls : new.encls ≡ record old.encls { frames = new.encls.frames; track = new.encls.track }
+  pub cycles : new.encls.track.cycles ≡ old.encls.track.cycles

@@ -27,15 +27,12 @@ use Rattle.ak_enclu.specs.Machines.{IsMachine}
 use Rattle.ak_enclu.specs.declared.cpu.Cpu.{Cpu}
 use Rattle.ak_memory.proofs.Granted.{granted_has}
 use Rattle.ak_memory.proofs.Putting.{whole_page-is, bytes_in_frame}
-use Rattle.ak_memory.specs.Granting.{is_walked, granted_frame, is_granted, is_seen, bytes_of, whole_page}
-use Rattle.ak_turns.proofs.Granted.{IsWalk, IsGrantedIn, granted_by, seen_granted}
-use Rattle.ak_turns.proofs.Walks.{IsKnown, own_walk, machine_walk}
+use Rattle.ak_memory.specs.Granting.{is_walked, granted_frame, is_granted, is_seen, whole_page}
+use Rattle.ak_turns.specs.Instructing.{memory_bytes}
+use Rattle.ak_turns.proofs.Program.Granted.{IsWalk, IsGrantedIn, granted_by, seen_granted}
+use Rattle.ak_turns.proofs.Program.Walks.{IsKnown, own_walk, machine_walk}
 
 -- ---- Frames
-
--- the bytes of each page, as a memory over these frames has them
-abbrev pub memory_bytes : List (List ℕ) → List Entry → ℕ → List ℕ
-memory_bytes frames entries p = whole_page (bytes_of frames entries p)
 
 -- the bytes of a page are those of the frame that holds it
 pub page_in_frame : (frames : List (List ℕ)) (entries : List Entry) (f p : ℕ) → HasDistinctPages entries → length (frame_at frames f) ≡ 4096
