@@ -18,11 +18,14 @@ pub fn granted_frames_hold_pages()
         → HasDistinctPages entries → granted_frame entries table cached t ≡ Some f → frame_with entries t.page.0 ≡ Some f.0 }
 {}
 
-/// The bytes of a page are those of the frame that holds it, of which there is one at most; and 4096 bytes are a whole page.
+/// The bytes of a page are those of the frame that holds it, of which there is one at most; 4096 bytes are a whole page; and so a memory
+/// whose frames have 4096 bytes shows of a page the bytes of its frame.
 pub fn pages_are_in_frames()
     ensures frame { (frames : List (List ℕ)) (entries : List TheEntry) (f p : ℕ) → HasDistinctPages entries → has_page (entry_at entries f) p ≡ true
         → bytes_of frames entries p ≡ frame_at frames f }
     ensures whole { (bytes : List ℕ) → length bytes ≡ 4096 → whole_page bytes ≡ bytes }
+    ensures shown { (frames : List (List ℕ)) (entries : List TheEntry) (f p : ℕ) → HasDistinctPages entries → has_page (entry_at entries f) p ≡ true
+        → length (frame_at frames f) ≡ 4096 → whole_page (bytes_of frames entries p) ≡ frame_at frames f }
 {}
 
 /// What a processor has cached names pages, where all does that was cached since the flush.

@@ -1,2 +1,2 @@
 mod Going
-mod Program
+mod ProgramTurns

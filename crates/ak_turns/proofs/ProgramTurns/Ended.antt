@@ -31,10 +31,10 @@ use Rattle.ak_enclu.specs.Machines.{IsMachine}
 use Rattle.ak_enclu.specs.declared.cpu.Cpu.{Cpu}
 use Rattle.ak_memory.proofs.Granted.{refused_neither}
 use Rattle.ak_memory.specs.Granting.{is_granted, is_seen, walked_of}
-use Rattle.ak_turns.proofs.Program.Covered.{AreThose, are_those, are_walked, covered}
+use Rattle.ak_turns.proofs.ProgramTurns.Covered.{AreThose, are_those, are_walked, covered}
 use Rattle.ak_turns.specs.Instructing.{memory_bytes}
-use Rattle.ak_turns.proofs.Program.Showing.{none_forbidden, all_allowed, shows, walked_in}
-use Rattle.ak_turns.proofs.Program.Walks.{IsKnown}
+use Rattle.ak_turns.proofs.ProgramTurns.Showing.{none_forbidden, all_allowed, shows, walked_in}
+use Rattle.ak_turns.proofs.ProgramTurns.Walks.{IsKnown}
 
 -- ---- Lists
 

@@ -29,8 +29,8 @@ use Rattle.ak_enclu.specs.Machines.{IsMachine}
 use Rattle.ak_enclu.specs.declared.cpu.Cpu.{Cpu}
 use Rattle.ak_memory.proofs.Cached.{all_walked}
 use Rattle.ak_memory.specs.Granting.{is_walked, is_granted, walked_of}
-use Rattle.ak_turns.proofs.Program.Showing.{walked_in}
-use Rattle.ak_turns.proofs.Program.Walks.{IsKnown, framed_filled}
+use Rattle.ak_turns.proofs.ProgramTurns.Showing.{walked_in}
+use Rattle.ak_turns.proofs.ProgramTurns.Walks.{IsKnown, framed_filled}
 
 -- ---- Those that walks found
 

@@ -29,8 +29,8 @@ use Rattle.ak_memory.proofs.Granted.{granted_has}
 use Rattle.ak_memory.proofs.Putting.{whole_page-is, bytes_in_frame}
 use Rattle.ak_memory.specs.Granting.{is_walked, granted_frame, is_granted, is_seen, whole_page}
 use Rattle.ak_turns.specs.Instructing.{memory_bytes}
-use Rattle.ak_turns.proofs.Program.Granted.{IsWalk, IsGrantedIn, granted_by, seen_granted}
-use Rattle.ak_turns.proofs.Program.Walks.{IsKnown, own_walk, machine_walk}
+use Rattle.ak_turns.proofs.ProgramTurns.Granted.{IsWalk, IsGrantedIn, granted_by, seen_granted}
+use Rattle.ak_turns.proofs.ProgramTurns.Walks.{IsKnown, own_walk, machine_walk}
 
 -- ---- Frames
 

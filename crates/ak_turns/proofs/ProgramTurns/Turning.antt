@@ -53,11 +53,11 @@ use Rattle.ak_turns.specs.Running.{IsRunning, Runs, TurnsTo, event_of, fault_eve
 use Rattle.ak_turns.specs.declared.notes.ProgramNote.{ProgramNote}
 use Rattle.ak_turns.specs.declared.notes.RuntimeNote.{RuntimeNote}
 use Rattle.ak_turns.specs.declared.notes.Turned.{Turned}
-use Rattle.ak_turns.proofs.Program.Completed.{completed, completed_machine, shows_computed, leaving_regs, shows_call, call_frames}
-use Rattle.ak_turns.proofs.Program.Ended.{shows_vector, shows_denied, refused_low, shows_fault}
-use Rattle.ak_turns.proofs.Program.Showing.{page_in_frame, shows}
-use Rattle.ak_turns.proofs.Program.Walks.{IsKnown, known, entered}
-use Rattle.ak_turns.proofs.Program.Written.{own_page, low}
+use Rattle.ak_turns.proofs.ProgramTurns.Completed.{completed, completed_machine, shows_computed, leaving_regs, shows_call, call_frames}
+use Rattle.ak_turns.proofs.ProgramTurns.Ended.{shows_vector, shows_denied, refused_low, shows_fault}
+use Rattle.ak_turns.proofs.ProgramTurns.Showing.{page_in_frame, shows}
+use Rattle.ak_turns.proofs.ProgramTurns.Walks.{IsKnown, known, entered}
+use Rattle.ak_turns.proofs.ProgramTurns.Written.{own_page, low}
 
 -- a vector of an instruction is no page fault, and of 8 bits
 vector_by : (v : ℕ) (a b c : Bool) → (v == 0) ≡ a → (v == 6) ≡ b → (v == 13) ≡ c → IsTrue (a || (b || c)) → (v ≢ 14) × (v < 256)

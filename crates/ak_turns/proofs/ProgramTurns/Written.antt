@@ -28,10 +28,10 @@ use Rattle.ak_enclu.specs.Machines.{IsMachine}
 use Rattle.ak_enclu.specs.declared.cpu.Cpu.{Cpu}
 use Rattle.ak_memory.specs.Granting.{is_granted, is_seen}
 use Rattle.ak_memory.specs.Keeping.{KeepsFrames}
-use Rattle.ak_turns.proofs.Program.Granted.{unseen_unwritable, unseen_apart}
+use Rattle.ak_turns.proofs.ProgramTurns.Granted.{unseen_unwritable, unseen_apart}
 use Rattle.ak_turns.specs.Instructing.{memory_bytes}
-use Rattle.ak_turns.proofs.Program.Showing.{page_in_frame, none_forbidden, shows}
-use Rattle.ak_turns.proofs.Program.Walks.{IsKnown}
+use Rattle.ak_turns.proofs.ProgramTurns.Showing.{page_in_frame, none_forbidden, shows}
+use Rattle.ak_turns.proofs.ProgramTurns.Walks.{IsKnown}
 
 -- ---- The page that a frame holds
 

@@ -31,12 +31,12 @@ use Rattle.ak_enclu.specs.Machines.{IsMachine, IsProcessor}
 use Rattle.ak_enclu.specs.declared.cpu.Cpu.{Cpu}
 use Rattle.ak_memory.specs.Granting.{is_granted, is_seen, walked_of, fill_by}
 use Rattle.ak_memory.specs.Keeping.{KeepsFrames}
-use Rattle.ak_turns.proofs.Program.Covered.{AreThose, are_those, are_walked, filled_after, low_among}
-use Rattle.ak_turns.proofs.Program.Machines.{stepped, stepped_there, stepped_other, stepped_machine}
+use Rattle.ak_turns.proofs.ProgramTurns.Covered.{AreThose, are_those, are_walked, filled_after, low_among}
+use Rattle.ak_turns.proofs.ProgramTurns.Machines.{stepped, stepped_there, stepped_other, stepped_machine}
 use Rattle.ak_turns.specs.Instructing.{memory_bytes}
-use Rattle.ak_turns.proofs.Program.Showing.{shows}
-use Rattle.ak_turns.proofs.Program.Walks.{IsKnown}
-use Rattle.ak_turns.proofs.Program.Written.{held_has, has_held, new_whole, other_frame, low, ends, written, call_frame}
+use Rattle.ak_turns.proofs.ProgramTurns.Showing.{shows}
+use Rattle.ak_turns.proofs.ProgramTurns.Walks.{IsKnown}
+use Rattle.ak_turns.proofs.ProgramTurns.Written.{held_has, has_held, new_whole, other_frame, low, ends, written, call_frame}
 
 module _ (layout : Layout) (cpu : Cpu) (table : List Pte) (encls new : Enclave) (k : IsKnown layout cpu table encls) (kept : KeepsFrames encls new) (granted : List Access)
     (all : list_all (is_granted encls.entries table cpu.tlb) granted ≡ true)
