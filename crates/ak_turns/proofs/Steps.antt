@@ -7,3 +7,4 @@ pub mod StepShows
 pub mod OwnMachine
 pub mod RuntimeTurns
 pub mod StepTold
+pub mod StepKeeps
