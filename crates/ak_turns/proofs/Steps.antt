@@ -8,3 +8,4 @@ pub mod OwnMachine
 pub mod RuntimeTurns
 pub mod StepTold
 pub mod StepKeeps
+pub mod Arms

@@ -41,7 +41,7 @@ use Rattle.ak_turns.proofs.Steps.Refusals.{AreHeld, faulted_refused, refused_fau
 use Rattle.ak_turns.proofs.Steps.StepMachines.{moved_on, moved_machine, goes_on, HasQuit, has_quit}
 use Rattle.ak_turns.proofs.Steps.StepShows.{shows_done, shows_refused}
 use Rattle.ak_turns.proofs.Steps.Walking.{walked_seen}
-use Rattle.ak_turns.proofs.Steps.WrittenFrames.{frames_stay}
+use Rattle.ak_turns.proofs.Steps.WrittenFrames.{frames_stay, changed}
 
 -- a turn in the runtime's mode: it leads to a machine of this processor, page table and enclave, is one of the definitions, and the cause
 -- after it is the one that its outcome names
@@ -133,9 +133,9 @@ module _ (layout : Layout) (cpu : Cpu) (memory : Memory) (r : Runs layout cpu me
         has_quit layout before memory.table memory.encls state m regs new.frames left
         (rest ∙ ap (λ (e : Enclave). record e { track = left.track }) s.rest) (subst (λ (e : Enclave). Steps e left (LeavesBy cpu.lp.0)) s.rest (λ lps marks holds. steps lps marks holds)) in
         let quits = q.quits in
-        turns _ (outside_now after) left q.machine quits.others refl
+        turns (changed state q.end.processors q.end.track (frame_at new.frames)) (outside_now after) left q.machine quits.others refl
         (shows_done layout before memory.table memory.encls state m new.frames s.before s.after s.granted s.refused outcome regs done unseen q.end.processors q.end.track
-        (ends _ quits) (λ t refused. never t (refused_is t refused)))
+        (ends (changed state q.end.processors q.end.track (frame_at new.frames)) quits) (λ t refused. never t (refused_is t refused)))
 
     -- ---- An access was refused
 
