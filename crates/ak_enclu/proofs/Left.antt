@@ -6,7 +6,6 @@ use Rattle.ak_core.specs.Layout.{Layout}
 use Rattle.ak_core.specs.declared.registers.Mode.{Mode}
 use Rattle.ak_core.specs.declared.registers.Regs.{Regs}
 use Rattle.ak_model.specs.Laws.Orderly.{after_miss_if}
-use Rattle.ak_model.specs.Paging.Histories.{History}
 use Rattle.ak_pte.specs.declared.table.Pte.{Pte}
 use Rattle.ak_ssa.specs.FramesFit.{CauseFits}
 use Rattle.ak_ssa.specs.SavedFrames.{SavedCause, area_place, why_of, saved_bytes}
@@ -16,7 +15,7 @@ use Rattle.ak_relation.specs.Bytes.Pages.{IsTcs}
 use Rattle.ak_relation.specs.Premises.Saving.{Saves, missed_in}
 use Rattle.ak_relation.specs.Premises.Works.{Quits}
 use Rattle.ak_relation.specs.State.MachineState.{State, Processor}
-use Rattle.ak_relation.specs.State.Tables.{TablesStand}
+use Rattle.ak_relation.specs.State.Tables.{FramesStand}
 use Rattle.ak_encls.specs.Enclave.{Enclave, frame_at}
 use Rattle.ak_enclu.specs.Machines.{IsProcessor, IsMachine, LeadsToWhere}
 use Rattle.ak_enclu.specs.Passing.{outside_now, ExitsTo, Steps}
@@ -76,10 +75,10 @@ module _ (layout : Layout) (state : State) (cpu : Cpu) (table : List Pte) (encls
 
 -- ---- An asynchronous exit
 
-module _ (layout : Layout) (past : History) (state : State) (cpu : Cpu) (table : List Pte) (encls new : Enclave) (saved : ℕ) (pending : Bool) (cause : SavedCause)
-    (h : TablesStand layout past state) (m : IsMachine layout cpu table encls state) (to : ExitsTo cpu (why_of layout cause) encls new) where
+module _ (layout : Layout) (state : State) (cpu : Cpu) (table : List Pte) (encls new : Enclave) (saved : ℕ) (pending : Bool) (cause : SavedCause)
+    (h : FramesStand state.frames) (m : IsMachine layout cpu table encls state) (to : ExitsTo cpu (why_of layout cause) encls new) where
   old_whole : (g : ℕ) → length (frame_at encls.frames g) ≡ 4096
-  old_whole g = ap length (sym (m.paging.frames g)) ∙ h.frames.whole g
+  old_whole g = ap length (sym (m.paging.frames g)) ∙ h.whole g
 
   by_frame : (g : ℕ) (a b : Bool) → (g == cpu.tcs.0) ≡ a → (g == cpu.ssa.0) ≡ b → length (frame_at new.frames g) ≡ 4096
   by_frame g true b e d =

@@ -19,7 +19,7 @@ ghost use Rattle.ak_relation.specs.Premises.Resuming.{ResumesAt};
 ghost use Rattle.ak_relation.specs.Premises.Saving.{Saves};
 ghost use Rattle.ak_relation.specs.Premises.Works.{Quits};
 ghost use Rattle.ak_relation.specs.State.MachineState.{State};
-ghost use Rattle.ak_relation.specs.State.Tables.{TablesStand};
+ghost use Rattle.ak_relation.specs.State.Tables.{FramesStand, TablesStand};
 ghost use Rattle.ak_encls.specs.Enclave.{Enclave, frame_at};
 ghost use Rattle.ak_enclu.specs.EnterAnswers.{enter_answer, resume_answer, held_at};
 ghost use Rattle.ak_pte.specs.Table.{pte_at};
@@ -74,9 +74,9 @@ pub fn entering_changes()
         table new (ResumesAt layout cpu.lp.0 (saved_of (tcs_at encls table (tcs_page layout)) - 1) state) }
 {}
 
-/// What an asynchronous exit or EEXIT leaves is what it does to the machine, where the tables stand.
+/// What an asynchronous exit or EEXIT leaves is what it does to the machine; of an asynchronous exit, where each frame has 4096 bytes.
 pub fn leaving_changes()
-    ensures saves { (layout : Layout) (past : History) (state : State) (cpu : TheCpu) (table : List Pte) (encls new : Enclave) (saved : ℕ) (pending : Bool) (cause : SavedCause) → TablesStand layout past state
+    ensures saves { (layout : Layout) (state : State) (cpu : TheCpu) (table : List Pte) (encls new : Enclave) (saved : ℕ) (pending : Bool) (cause : SavedCause) → FramesStand state.frames
         → IsMachine layout cpu table encls state → saved ≤ 2 → IsTcs saved pending (frame_at encls.frames cpu.tcs.0)
         → (cpu.regs.mode ≡ Mode.Runtime → AreRegs cpu.regs) → CauseFits layout cause → ExitsTo cpu (why_of layout cause) encls new
         → LeadsToWhere layout (outside_now cpu) table new (Saves layout cpu.lp.0 saved (refuses (why_of layout cause) || pending) cause state) }

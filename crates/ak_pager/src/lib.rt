@@ -10,5 +10,5 @@ mod state;
 mod step;
 mod turn;
 
-pub use step::runtime_turn;
+pub use step::{leave_step, runtime_turn};
 pub use turn::RtTurn;

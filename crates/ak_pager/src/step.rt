@@ -1,5 +1,6 @@
 // One step of the runtime.
 ghost use Rattle.std.specs.Prelude.{◌≡◌, [], None};
+ghost use Rattle.ak_pager.specs.Contexts.{step_address};
 ghost use Rattle.ak_pager.specs.Effects.{KeepsMemory, SomeStep, StepsAlways, turn_of};
 
 use crate::entry::enter;
@@ -16,6 +17,13 @@ const GUARD_STEP: u64 = 16;
 
 /// How far into CODE the step is by which the program leaves.
 const LEAVE_STEP: u64 = 32;
+
+/// The address of the step by which the program leaves.
+pub fn leave_step(layout: &Layout) -> u64
+    ensures { result ≡ step_address layout.now 32 }
+{
+    places::address_of(layout, LEAVE_STEP)
+}
 
 /// Does the next step of the runtime, in a turn of its own on this memory.
 ///

@@ -11,3 +11,4 @@ pub mod WalkedReached
 pub mod EventTurns
 pub mod ExitTurns
 pub mod LeftTables
+pub mod HeldFrames

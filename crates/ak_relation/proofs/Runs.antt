@@ -6,3 +6,5 @@ pub mod WholeRuns
 pub mod OutsideMoves
 pub mod BuiltStands
 pub mod TracedMoves
+pub mod KeptCauses
+pub mod NamedMoves

@@ -1,7 +1,9 @@
 -- The relation at a moment of a trace, and the steps from one moment to another.
 pub mod Stands
+pub mod HeldFrames
 pub mod Does
 pub mod TurnByTurn
+pub mod Causes
 pub mod MoveByMove
 pub mod Example
 pub mod Witnesses

@@ -1,7 +1,9 @@
 // Laws on the relation, a module for each subject.
 
 pub mod built;
+pub mod causes;
 pub mod entering;
+pub mod holding;
 pub mod leaves;
 pub mod program;
 pub mod reached;

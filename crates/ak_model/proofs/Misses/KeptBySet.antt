@@ -83,7 +83,7 @@ in_codes (x ∷ xs) t h = by_first (same_access t x) refl (λ k. in_codes xs t k
     by_first false e more k = or_more (code x == code t) (is_in (map code xs) (code t)) (more k)
 
 module _ (P : Access → Bool) where
-  filter_among : (xs : List Access) (t : Access) → is_among (filter P xs) t ≡ (P t && is_among xs t)
+  pub filter_among : (xs : List Access) (t : Access) → is_among (filter P xs) t ≡ (P t && is_among xs t)
   filter_among [] t = none (P t)
     where
       none : (b : Bool) → false ≡ (b && false)

@@ -68,18 +68,18 @@ permits_low layout p kind h = program (nat_lt p (pages layout)) refl h
     program false e k = tcs (p == tcs_page layout) k
 
 -- an access is cached just where it is one of the cached accesses
-filled_among : (fills : List Fill) (t : Access) → is_filled fills t ≡ is_among (accesses_of fills) t
+pub filled_among : (fills : List Fill) (t : Access) → is_filled fills t ≡ is_among (accesses_of fills) t
 filled_among [] t = refl
 filled_among (fill ∷ fills) t = ap (λ b. same_access t fill.access || b) (filled_among fills t)
 
 -- what holds of each access of a list holds of all
-all_among : (f : Access → Bool) (xs : List Access) → ((t : Access) → is_among xs t ≡ true → f t ≡ true) → list_all f xs ≡ true
+pub all_among : (f : Access → Bool) (xs : List Access) → ((t : Access) → is_among xs t ≡ true → f t ≡ true) → list_all f xs ≡ true
 all_among f [] h = refl
 all_among f (x ∷ xs) h =
     let own = h x (ap (λ b. b || is_among xs x) (access_self x)) in rw own (all_among f xs (λ t e. h t (or_later (same_access t x) (is_among xs t) e)))
 
 -- and the other way
-among_all : (f : Access → Bool) (xs : List Access) (t : Access) → list_all f xs ≡ true → is_among xs t ≡ true → f t ≡ true
+pub among_all : (f : Access → Bool) (xs : List Access) (t : Access) → list_all f xs ≡ true → is_among xs t ≡ true → f t ≡ true
 among_all f [] t h some = absurd (cc)
 among_all f (x ∷ xs) t h some = let parts = both (f x) (list_all f xs) h in by_first (same_access t x) refl parts.0 (among_all f xs t parts.1) some
   where

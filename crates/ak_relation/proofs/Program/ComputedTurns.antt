@@ -25,12 +25,11 @@ use Rattle.ak_relation.specs.Premises.Computing.{Computes, ShowsComputed}
 use Rattle.ak_relation.specs.Relation.Does.{TurnFollows, at_moment, GoesTo, IsTurn}
 use Rattle.ak_relation.proofs.Program.OrdinaryTurns.{new_turn, counted, ordinary_stands}
 use Rattle.ak_relation.proofs.Program.ProgramTurns.{later_less, follows}
-use Rattle.ak_relation.proofs.Program.Seen.{now_program, phase_running, none_saved, comes_at, its_stay, sees}
+use Rattle.ak_relation.proofs.Program.Seen.{flat_whole, now_program, phase_running, none_saved, comes_at, its_stay, sees}
 use Rattle.ak_relation.proofs.Exits.SavedPages.{page_is}
 use Rattle.ak_relation.proofs.Leaves.ViewStands.{view-same}
 use Rattle.ak_relation.proofs.Program.WalkedFills.{fills_reached}
 use Rattle.ak_relation.proofs.Program.AwayPages.{away_pages}
-use Rattle.ak_relation.proofs.Program.OwnWords.{flat_whole}
 
 module _ (layout : Layout) (past : History) (lp place : ℕ) (flat after : Flat) (old new : State) (is : since past lp ≡ Some place) (h : TablesStand layout past old)
     (program : (p : ℕ) → p < pages layout → OfCopy (copies_at layout past old p) (λ bytes. bytes ≡ page_bytes flat p))

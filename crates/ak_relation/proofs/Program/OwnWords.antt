@@ -1,9 +1,8 @@
--- The program's registers have 64 bits, and its flat state all bytes: so a processor that is saved has a frame that fits.
-use Rattle.std.proofs.Common.{◌≡◌, ℕ, ◌*◌, ◌≤◌, List, length, arith, refl, sym, subst}
+-- The program's registers have 64 bits: so a processor that is saved has a frame that fits.
+use Rattle.std.proofs.Common.{◌≡◌, ℕ, List, refl, sym, subst}
 use Rattle.std.specs.Prelude.{Bool, Some}
 use Rattle.ak_core.specs.Layout.{Layout}
 use Rattle.ak_core.specs.declared.registers.Mode.{Mode}
-use Rattle.ak_model.specs.Paging.Pages.{pages}
 use Rattle.ak_model.specs.Paging.Histories.{History}
 use Rattle.ak_model.specs.Paging.Inside.{since}
 use Rattle.ak_model.specs.Control.ControlState.{Control}
@@ -18,7 +17,6 @@ use Rattle.ak_relation.specs.Premises.Saving.{Saves}
 use Rattle.ak_relation.specs.Relation.Stands.{Stands}
 use Rattle.ak_relation.specs.Relation.Does.{at_moment}
 use Rattle.ak_relation.proofs.Flat.WordRuns.{at_words}
-use Rattle.ak_relation.proofs.Flat.WrittenRuns.{at_all}
 use Rattle.ak_relation.proofs.Program.Seen.{sees}
 
 module _ (layout : Layout) (image : List ℕ) (past : History) (control : Control) (turns : List ProgramTurn) (state : State) (h : Stands layout image (at_moment past control turns state)) where
@@ -27,14 +25,6 @@ module _ (layout : Layout) (image : List ℕ) (past : History) (control : Contro
   flat_fits =
       let given = h.inputs in let words = given.words in
       at_words layout given.valid image control.returned given.bytes words.returned (owing control) control.count h.bytes.flat h.bytes.program
-
-  -- it has all bytes of the program's pages
-  pub flat_whole : 4096 * pages layout ≤ length h.bytes.flat.bytes
-  flat_whole =
-      let exact : length image ≡ 4096 * pages layout = h.inputs.whole in
-      let whole : 4096 * pages layout ≤ length image = omega arith in
-      let same : length h.bytes.flat.bytes ≡ length image = at_all layout image control.returned whole (owing control) control.count h.bytes.flat h.bytes.program in
-      omega arith
 
   module _ (lp place : ℕ) (is : since past lp ≡ Some place) where
     -- a processor that runs the program has registers of 64 bits

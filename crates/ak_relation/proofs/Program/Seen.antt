@@ -1,5 +1,5 @@
 -- Where the relation holds and a processor runs the program, it sees the program at the flat state.
-use Rattle.std.proofs.Common.{◌≡◌, ℕ, ◌<◌, List, [], ◌∷◌, ap, sym, ◌∙◌, subst, arith}
+use Rattle.std.proofs.Common.{◌≡◌, ℕ, ◌*◌, ◌<◌, ◌≤◌, List, [], ◌∷◌, length, ap, sym, ◌∙◌, subst, arith}
 use Rattle.std.proofs.lemmas.Bool.{and_parts}
 use Rattle.std.specs.Prelude.{true, ◌&&◌, Some, is_some}
 use Rattle.ak_core.specs.Layout.{Layout}
@@ -15,6 +15,7 @@ use Rattle.ak_model.specs.Paging.Walk.{flags_allow, is_in_frame}
 use Rattle.ak_model.specs.Flat.FlatRuns.{page_bytes}
 use Rattle.ak_model.specs.Control.ControlState.{Running, Program, Control}
 use Rattle.ak_model.specs.Laws.Orderly.{NowFits}
+use Rattle.ak_model.specs.Laws.OwedAnswers.{owing}
 use Rattle.ak_model.specs.Tapes.ProgramTurns.{ProgramTurn}
 use Rattle.ak_tlb.specs.Fills.{Fill}
 use Rattle.ak_relation.specs.State.MachineState.{State, copy}
@@ -26,10 +27,20 @@ use Rattle.ak_relation.specs.Relation.Stands.{runs_at, Stands}
 use Rattle.ak_relation.specs.Program.Seeing.{SeenFills, Sees}
 use Rattle.ak_relation.specs.Premises.EnterRows.{walk_in}
 use Rattle.ak_relation.specs.Relation.Does.{at_moment}
+use Rattle.ak_relation.proofs.Flat.WrittenRuns.{at_all}
 use Rattle.ak_relation.proofs.Program.Completing.{empty}
 use Rattle.ak_relation.proofs.Entering.EnterFacts.{frame_is}
 use Rattle.ak_relation.proofs.Entering.EnterAnswers.{walk_same}
 use Rattle.ak_relation.proofs.Program.ProgramTurns.{program_now, settled_at}
+
+-- the flat state has all bytes of the program's pages
+pub flat_whole : (layout : Layout) (image : List ℕ) (past : History) (control : Control) (turns : List ProgramTurn) (state : State)
+    → (h : Stands layout image (at_moment past control turns state)) → 4096 * pages layout ≤ length h.bytes.flat.bytes
+flat_whole layout image past control turns state h =
+    let exact : length image ≡ 4096 * pages layout = h.inputs.whole in
+    let whole : 4096 * pages layout ≤ length image = omega arith in
+    let same : length h.bytes.flat.bytes ≡ length image = at_all layout image control.returned whole (owing control) control.count h.bytes.flat h.bytes.program in
+    omega arith
 
 module _ (layout : Layout) (image : List ℕ) (past : History) (control : Control) (turns : List ProgramTurn) (s : State) (lp place : ℕ)
     (h : Stands layout image (at_moment past control turns s)) (is : since past lp ≡ Some place) (mode : (s.processors lp).regs.mode ≡ Mode.Program) where
@@ -82,4 +93,5 @@ module _ (layout : Layout) (image : List ℕ) (past : History) (control : Contro
     regs = subst (λ x. GivesNow layout control.phase h.bytes.flat x (s.processors lp).regs) now_program (h.bytes.registers.given lp within);
     walked = walked;
     cached = cached (s.processors lp).fills its_stay.fills;
+    whole = flat_whole layout image past control turns s h;
   }

@@ -8,9 +8,10 @@ use Rattle.ak_model.proofs.Clusters.ValidClusters.{clusters_fit}
 use Rattle.ak_model.specs.Paging.Inside.{since}
 use Rattle.ak_relation.specs.State.MachineState.{State}
 use Rattle.ak_pager.specs.declared.turn.RtTurn.{RtTurn}
-use Rattle.ak_relation.specs.Premises.Works.{exit_of, NamesCause}
+use Rattle.ak_relation.specs.Premises.Works.{exit_of}
 use Rattle.ak_relation.specs.Premises.Shows.{ShowsStep}
 use Rattle.ak_relation.specs.Relation.Does.{IsTurn}
+use Rattle.ak_relation.specs.Relation.Causes.{NamesCause}
 use Rattle.ak_ssa.proofs.Room.{room}
 use Rattle.ak_relation.proofs.Runtime.RuntimeTurns.{runtime_turns, by_place}
 
@@ -21,6 +22,6 @@ valid_turns layout valid walks lp old new outcome s = runtime_turns layout (clus
 
 -- and the cause after it
 pub valid_causes : (layout : Layout) → IsValid layout → steps_walk layout.build ≡ true → (lp : Lp) (old new : State) (outcome : RtTurn) → ShowsStep layout lp.0 old new outcome →
-    NamesCause layout lp.0 old new outcome
+    NamesCause layout lp.0 old new (exit_of layout outcome) None outcome
 valid_causes layout valid walks lp old new outcome s image past control turns within h all =
     by_place layout (clusters_fit layout valid) walks (room layout valid) lp old new outcome s image past control turns within h all (since past lp.0) refl

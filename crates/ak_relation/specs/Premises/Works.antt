@@ -17,10 +17,6 @@ use Rattle.ak_model.specs.Control.RuntimeTurn.{shown_fault, stuck_cause}
 use Rattle.ak_core.specs.declared.moves.Exit.{Exit}
 use Rattle.ak_relation.specs.Relation.Stands.{copies_at}
 use Rattle.ak_pager.specs.declared.turn.RtTurn.{RtTurn}
-use Rattle.ak_model.specs.Paging.Inside.{inside}
-use Rattle.ak_model.specs.Tapes.ProgramTurns.{ProgramTurn}
-use Rattle.ak_relation.specs.Relation.Stands.{Stands}
-use Rattle.ak_relation.specs.Relation.Does.{TurnFollows, past_after, at_moment, GoesTo}
 
 -- a context of the runtime's
 abbrev pub IsStep : Context → Type 0
@@ -118,11 +114,3 @@ CauseIs control RtTurn.Go after = after ≡ control.cause
 CauseIs control (RtTurn.Leave exit) after = after ≡ control.cause
 CauseIs control (RtTurn.Dead cause) after = after ≡ first_cause control.cause (named_by cause)
 CauseIs control (RtTurn.Faulted t) after = after ≡ stuck_cause control t
-
--- a step is a turn, after which the cause is the one that its outcome names
-abbrev pub NamesCause : Layout → ℕ → State → State → RtTurn → Type 0
-NamesCause layout lp old new outcome =
-    (image : List ℕ) (past : History) (control : Control) (turns : List ProgramTurn) → inside past lp ≡ true →
-    Stands layout image (at_moment past control turns old) → (all : ℕ) →
-    (goes : GoesTo layout image (TurnFollows layout lp past (exit_of layout outcome)) (at_moment past control turns old) (past_after past lp all (exit_of layout outcome)) new None)
-    × CauseIs control outcome goes.control.cause

@@ -11,7 +11,8 @@ ghost use Rattle.ak_model.specs.Tapes.ProgramTurns.{ProgramTurn};
 ghost use Rattle.ak_relation.specs.Premises.Shows.{ShowsStep};
 ghost use Rattle.ak_pager.specs.StepsTo.{MayStep, memory_of};
 ghost use Rattle.ak_pager.specs.declared.turn.RtTurn.{RtTurn};
-ghost use Rattle.ak_relation.specs.Premises.Works.{IsMemory, IsStep, NamesCause, Writes, WritesFrames, exit_of};
+ghost use Rattle.ak_relation.specs.Premises.Works.{IsMemory, IsStep, Writes, WritesFrames, exit_of};
+ghost use Rattle.ak_relation.specs.Relation.Causes.{NamesCause};
 ghost use Rattle.ak_relation.specs.Relation.Does.{IsTurn, at_moment};
 ghost use Rattle.ak_relation.specs.Relation.Stands.{Stands};
 ghost use Rattle.ak_relation.specs.State.MachineState.{State};
@@ -34,7 +35,7 @@ pub fn valid_turns()
     ensures turn { (layout : Layout.Layout) (lp : Lp) (old new : State) (outcome : RtTurn) → IsValid layout → steps_walk layout.build ≡ true
         → ShowsStep layout lp.0 old new outcome → IsTurn layout lp.0 old new (exit_of layout outcome) None }
     ensures cause { (layout : Layout.Layout) (lp : Lp) (old new : State) (outcome : RtTurn) → IsValid layout → steps_walk layout.build ≡ true
-        → ShowsStep layout lp.0 old new outcome → NamesCause layout lp.0 old new outcome }
+        → ShowsStep layout lp.0 old new outcome → NamesCause layout lp.0 old new (exit_of layout outcome) None outcome }
 {}
 
 /// A memory over the frames that the page table names is one over the pages, and leaves the frames of slots.

@@ -1,4 +1,5 @@
-use Rattle.ak_relation.proofs.Program.OwnWords.{flat_fits, flat_whole, own_words}
+use Rattle.ak_relation.proofs.Program.OwnWords.{flat_fits, own_words}
+use Rattle.ak_relation.proofs.Program.Seen.{flat_whole}
 use Rattle.ak_relation.proofs.laws.program.standing_values_fit.Goals as goal
 
 pub returns : goal.returns
