@@ -162,4 +162,14 @@ impl Layout {
     {
         self.build
     }
+
+    /// The same layout of a sealed build. It is temporary: only such builds will stay.
+    pub fn sealed(self) -> Layout
+        ensures { result ≡ record self { build = Build.Sealed } }
+    {
+        Layout {
+            build: Build::Sealed,
+            ..self
+        }
+    }
 }

@@ -8,8 +8,7 @@ use Rattle.ak_image.proofs.image.Image.digest.Goals as goal
 
 pub loop-page-init : goal.loop-page-init
 loop-page-init c =
-    let size : c.enclave_size.result ≡ enclave_size (pages_of c.args.self.now) = c.enclave_size.ensures ∙ ap enclave_size (c.from.ensures ∙ c.pages-pages.ensures.pages) in
-    subst (HasAbsorbed c.new-measure.result) (ap create_block size ∙ sym (blocks-none (enclave_size (pages_of c.args.self.now)))) c.new-measure.ensures
+    subst (HasAbsorbed c.new-measure.result) (ap create_block c.size.ensures ∙ sym (blocks-none (enclave_size (pages_of c.args.self.now)))) c.new-measure.ensures
 
 pub loop-page-preserved : goal.loop-page-preserved
 loop-page-preserved c =
