@@ -164,12 +164,10 @@ impl Layout {
     }
 
     /// The same layout of a sealed build. It is temporary: only such builds will stay.
-    pub fn sealed(self) -> Layout
+    pub fn sealed(mut self) -> Layout
         ensures { result ≡ record self { build = Build.Sealed } }
     {
-        Layout {
-            build: Build::Sealed,
-            ..self
-        }
+        self.build = Build::Sealed;
+        self
     }
 }
