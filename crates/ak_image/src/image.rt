@@ -1,5 +1,5 @@
 // Images of enclaves.
-ghost use Rattle.std.specs.Prelude.{◌≡◌, ◌<◌, ◌≤◌, ◌+◌, IfOk, OnOk, length, string_bytes};
+ghost use Rattle.std.specs.Prelude.{◌≡◌, ◌<◌, ◌≤◌, ◌+◌, ◌*◌, ◌/◌, ℕ, IfOk, OnOk, length, slice_index, string_bytes};
 ghost use Rattle.ak_image.specs.Built.{page_bytes, secinfo_of, digest_of};
 ghost use Rattle.ak_image.specs.Image;
 ghost use Rattle.std.specs.List.{All};
@@ -106,7 +106,7 @@ impl Image {
         ensures whole { IsWhole self.now }
         ensures bytes { All (λ v. v < 256) self.now.bytes }
     {
-        self.perms.len() as u32
+        whole_pages(&self.bytes)
     }
 
     /// The size of the enclave in bytes.
@@ -213,4 +213,13 @@ impl Image {
         }
         measure.finish()
     }
+}
+
+/// How many pages these bytes fill.
+fn whole_pages(bytes: &[u8]) -> u32
+    requires { length bytes.now ≤ 4096 * 512 }
+    ensures pages { result ≡ length bytes.now / 4096 }
+    ensures bytes { (k : ℕ) → slice_index bytes.now k < 256 }
+{
+    (bytes.len() / PAGE_SIZE) as u32
 }
