@@ -69,8 +69,10 @@ impl Driver {
     pub fn next(&self, layout: &Layout, inputs: &[u64]) -> Option<Move>
         ensures { (past : History) → Notes self.now layout.now past → result ≡ drive layout.now past inputs.now }
     {
-        let m = self.ruled(layout, inputs)?;
-        if self.was_refused(&m) { None } else { Some(m) }
+        match self.ruled(layout, inputs) {
+            Some(m) if !self.was_refused(&m) => Some(m),
+            _ => None,
+        }
     }
 
     // This very move was refused just now.

@@ -78,7 +78,8 @@ impl Driver {
     // The first page of the dropped clusters that wants this.
     fn first_evicted(&self, layout: &Layout, duty: Duty) -> Option<Page>
         ensures page { page_number result ≡ find (wants self.now layout.now duty) (flat_map (pages_of layout.now) (dropped_by self.now)) }
-        ensures small { IfSome result (λ p. p.0 < length layout.now.perms) }
+        ensures within { IfSome result (λ p. p.0 < length layout.now.perms) }
+        ensures small { IfSome result (λ p. p.0 < 512) }
     {
         for c in self.requests.dropped() {
             if let Some(p) = self.first_of(layout, *c, duty) {
@@ -91,12 +92,14 @@ impl Driver {
     // The first page of a cluster that wants this.
     fn first_of(&self, layout: &Layout, c: u32, duty: Duty) -> Option<Page>
         ensures page { page_number result ≡ find (wants self.now layout.now duty) (pages_of layout.now c) }
-        ensures small { IfSome result (λ p. p.0 < length layout.now.perms) }
+        ensures within { IfSome result (λ p. p.0 < length layout.now.perms) }
+        ensures small { IfSome result (λ p. p.0 < 512) }
     {
-        for (i, cluster) in layout.cluster_of().iter().enumerate() {
-            let p = Page(i as u32);
-            if *cluster == c && self.wants(layout, p, duty) {
-                return Some(p);
+        let cluster_of = layout.cluster_of();
+        let pages = layout.perms().len() as u32;
+        for p in 0..pages {
+            if cluster_of[p as usize] == c && self.wants(layout, Page(p), duty) {
+                return Some(Page(p));
             }
         }
         None

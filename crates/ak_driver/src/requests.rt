@@ -4,6 +4,7 @@ ghost use Rattle.std.specs.List.{range_with_len};
 ghost use Rattle.ak_core.specs.Layout.{IsValid};
 ghost use Rattle.ak_core.specs.declared.moves.Exit.TheVariants.{Ask, Ready};
 ghost use Rattle.ak_model.specs.Kernels.Counted.{service};
+ghost use Rattle.ak_model.specs.Paging.Build.{queue_at_build};
 ghost use Rattle.ak_driver.specs.NotedRequests.{AreRequests, kept_after, kept_by, kept_in};
 
 use crate::changes::Change;
@@ -25,14 +26,11 @@ pub(crate) struct Requests {
 impl Requests {
     /// As the build leaves them.
     pub fn new(layout: &Layout) -> Requests
-        ensures { IsValid layout.now → AreRequests (kept_in result) (service layout.now []) }
+        requires { IsValid layout.now }
+        ensures { AreRequests (kept_in result) (service layout.now []) }
     {
-        let count = match layout.build() {
-            Build::Resident => layout.clusters(),
-            Build::Sealed => 0,
-        };
         Requests {
-            clusters: first_clusters(count),
+            clusters: clusters_at_build(layout),
             dropped: 0,
             asked: None,
         }
@@ -102,13 +100,25 @@ impl Requests {
     }
 }
 
-// The first so many clusters, 512 at most.
+// The clusters that are in at the build.
+fn clusters_at_build(layout: &Layout) -> ArrayVec<u32, MAX_CLUSTERS>
+    requires { IsValid layout.now }
+    ensures { result.items ≡ queue_at_build layout.now.build layout.now }
+{
+    match layout.build() {
+        Build::Resident => first_clusters(layout.clusters()),
+        Build::Sealed => ArrayVec::new(),
+    }
+}
+
+// The first so many clusters.
 fn first_clusters(count: u32) -> ArrayVec<u32, MAX_CLUSTERS>
-    ensures { count ≤ 512 → result.items ≡ range_with_len 0 count }
+    requires { count ≤ 512 }
+    ensures { result.items ≡ range_with_len 0 count }
 {
     let mut clusters = ArrayVec::new();
     for c in 0..count {
-        let _ = clusters.try_push(c);
+        clusters.push(c);
     }
     clusters
 }

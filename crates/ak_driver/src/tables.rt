@@ -5,6 +5,7 @@ ghost use Rattle.ak_core.specs.Layout.{Layout as Pages};
 ghost use Rattle.ak_core.specs.Layout.{IsValid};
 ghost use Rattle.ak_model.specs.Paging.Build.{held_at_build};
 ghost use Rattle.ak_model.specs.Paging.Frames.{blocks_first};
+ghost use Rattle.ak_model.specs.Paging.Holdings.{is_free};
 ghost use Rattle.ak_model.specs.Paging.Pages.{flags_for, pages};
 ghost use Rattle.ak_driver.specs.NotedTables.{AreFramesAtBuild, ArePagesAtBuild, HasTables, facts_at_build, frame_note, frame_number, frames_after, free_note, holding, is_free_note, noted, page_note, pages_after, removed, written_out};
 
@@ -265,12 +266,19 @@ impl Tables {
         ensures { frame_number result ≡ find (is_free_note self.now.frames.items) (range_with_len 0 frames) }
     {
         for f in 0..frames {
-            if matches!(self.frame(Frame(f)).held, Held::Free) {
+            if is_free(self.frame(Frame(f)).held) {
                 return Some(Frame(f));
             }
         }
         None
     }
+}
+
+// The frame is free.
+fn is_free(held: Held) -> bool
+    ensures { result ≡ is_free (holding held) }
+{
+    matches!(held, Held::Free)
 }
 
 // The frames as the build leaves them: each of the layout, and each that holds a page.
@@ -294,9 +302,9 @@ fn frames_at_build(alloc: Global, layout: &Layout) -> Result<Vec<FrameNote>, Out
 }
 
 // What a frame holds at the build: the SECS, a VA page, the runtime's pages, and those of the program where they are resident.
-fn held_at_build(build: Build, pages: u32, f: u32) -> Held
-    requires { pages ≤ 512 }
-    ensures { (layout : Pages) → build ≡ layout.build → pages ≡ pages layout → holding result ≡ held_at_build layout f }
+fn held_at_build(build: Build, count: u32, f: u32) -> Held
+    requires { count ≤ 512 }
+    ensures { (layout : Pages) → build ≡ layout.build → count ≡ pages layout → holding result ≡ held_at_build layout f }
 {
     if f == 0 {
         return Held::Secs;
@@ -305,10 +313,10 @@ fn held_at_build(build: Build, pages: u32, f: u32) -> Held
         return Held::Va;
     }
     if f < PROGRAM_FRAME {
-        return Held::Page(Page(pages + (f - 2)));
+        return Held::Page(Page(count + (f - 2)));
     }
     match build {
-        Build::Resident if f < PROGRAM_FRAME + pages => Held::Page(Page(f - PROGRAM_FRAME)),
+        Build::Resident if f < PROGRAM_FRAME + count => Held::Page(Page(f - PROGRAM_FRAME)),
         _ => Held::Free,
     }
 }

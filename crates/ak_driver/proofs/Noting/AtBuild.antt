@@ -42,7 +42,7 @@ no_frames layout = record { size = refl; held_is = λ f low. absurd (omega arith
 
 pub one_more_frame : (notes : List FrameNote) (layout : Layout) (n : ℕ) (note : FrameNote) → FramesUpTo notes layout n
     → holding note.held ≡ held_at_build layout n → note.blocked ≡ None → FramesUpTo (notes ++ note ∷ []) layout (n + 1)
-one_more_frame notes layout n note h is open =
+one_more_frame notes layout n note h is unblocked =
     let size = h.size in
     record {
       size = omega (arith, length-append notes (note ∷ []));
@@ -59,7 +59,7 @@ one_more_frame notes layout n note h is open =
 
     blocked : (f : ℕ) → (f < n) ⊎ (n ≤ f) → f < n + 1 → (frame_note (notes ++ note ∷ []) f).blocked ≡ None
     blocked f (inl below) low = let size = h.size in ap (λ (x : FrameNote). x.blocked) (pushed_before notes note free_note f (omega arith)) ∙ h.blocked_is f below
-    blocked f (inr high) low = let size = h.size in ap (λ (x : FrameNote). x.blocked) (pushed_at notes note free_note f (omega arith)) ∙ open
+    blocked f (inr high) low = let size = h.size in ap (λ (x : FrameNote). x.blocked) (pushed_at notes note free_note f (omega arith)) ∙ unblocked
 
 differ : (x y : ℕ) → (x ≡ y → ⊥) → (x == y) ≡ false
 differ x y ne = elim (eqb_tells x y) [ inl one ↦ absurd (ne one.1) | inr two ↦ two.0 ]
@@ -104,13 +104,8 @@ no_pages layout = record { size = refl; facts_are = λ p low. absurd (omega arit
 pub page_at_build : (layout : Layout) (p : ℕ) (perm : Perm) → slice_get layout.perms p ≡ Some perm → p < pages layout → facts_at_build layout.build perm p ≡ facts layout [] p
 page_at_build layout p perm is low =
     let t : nat_lt p (pages layout) ≡ true = lt-ltb p (pages layout) low in
-    let permits : perm_of layout p ≡ Some perm = ap (λ b. if b then slice_get layout.perms p else _) t ∙ is in
-    by layout.build permits
-    ∙ sym (ap (λ b. record {
-      frame = frame_in (if b then program_place layout.build p else _);
-      entry = if b then program_entry layout.build layout p else _;
-      copy = record { handle = p; va = 1; slot = p };
-    }) t)
+    let permits : perm_of layout p ≡ Some perm = rw t is in
+    rw t (by layout.build permits)
   where
     by : (build : Build) → perm_of layout p ≡ Some perm → facts_at_build build perm p
         ≡ record { frame = frame_in (program_place build p); entry = program_entry build layout p; copy = record { handle = p; va = 1; slot = p } }

@@ -25,20 +25,19 @@ among x all = list_any (λ y. y == x) all
 
 among-filter : (test : ℕ → Bool) (x : ℕ) (all : List ℕ) → among x (filter test all) ≡ (among x all && test x)
 among-filter test x [] = refl
-among-filter test x (y ∷ all) = by (y == x) (test y) refl refl
+among-filter test x (y ∷ all) = by (among-filter test x all) (y == x) (test y) refl refl
   where
-    by : (same passes : Bool) → (y == x) ≡ same → test y ≡ passes
+    neither : (b : Bool) → (b && false) ≡ false
+    neither true = refl
+    neither false = refl
+
+    by : among x (filter test all) ≡ (among x all && test x) → (same passes : Bool) → (y == x) ≡ same → test y ≡ passes
         → among x (cond passes (y ∷ filter test all) (filter test all)) ≡ ((same || among x all) && test x)
-    by true true e t = ap (λ b. b || among x (filter test all)) e ∙ sym (ap test (sym (eqb-true y x e)) ∙ t)
-    by true false e t =
-        let no : test x ≡ false = ap test (sym (eqb-true y x e)) ∙ t in
-        among-filter test x all ∙ ap (λ b. among x all && b) no ∙ neither (among x all) ∙ sym no
-      where
-        neither : (b : Bool) → (b && false) ≡ false
-        neither true = refl
-        neither false = refl
-    by false true e t = ap (λ b. b || among x (filter test all)) e ∙ among-filter test x all
-    by false false e t = among-filter test x all
+    by rest true true e t = ap (λ b. b || among x (filter test all)) e ∙ sym (ap test (sym (eqb-true y x e)) ∙ t)
+    by rest true false e t =
+        let no : test x ≡ false = ap test (sym (eqb-true y x e)) ∙ t in rest ∙ ap (λ b. among x all && b) no ∙ neither (among x all) ∙ sym no
+    by rest false true e t = ap (λ b. b || among x (filter test all)) e ∙ rest
+    by rest false false e t = rest
 
 none_in_range : (test : ℕ → Bool) (n a : ℕ) → ((x : ℕ) → a ≤ x → x < a + n → test x ≡ false) → list_any test (range_with_len a n) ≡ false
 none_in_range test zero a h = refl
@@ -181,7 +180,10 @@ module _ (newest : ℕ) (entered : List (Option ℕ)) (lps place : ℕ) (is_in :
           differ : (x : ℕ) → (x ≡ lp → ⊥) → (x == lp) ≡ false
           differ x ne = elim (eqb_tells x lp) [ inl one ↦ absurd (ne one.1) | inr two ↦ two.0 ]
 
-  begun : AreCycles (place + 1) entered lps (place + 1) is_in (record { at = place + 1; waiting = filter is_in (range_with_len 0 lps) } ∷ all)
+  abbrev new_cycle : Cycle
+  new_cycle = record { at = place + 1; waiting = filter is_in (range_with_len 0 lps) }
+
+  begun : AreCycles (place + 1) entered lps (place + 1) is_in (new_cycle ∷ all)
   begun =
       let early = h.early in
       record {
@@ -192,7 +194,7 @@ module _ (newest : ℕ) (entered : List (Option ℕ)) (lps place : ℕ) (is_in :
         earlier = λ lp n e. let low = h.earlier lp n e in omega arith;
         waiting = (omega arith, λ lp. begun_waits lp (entered_at entered lp) refl, more_wait newest (place + 1) (entered_at entered) all (omega arith) h.waiting);
         newest_at = inr (or_left ((place + 1) == (place + 1)) _ (eq-eqb (place + 1) (place + 1) refl));
-        entered_at_one = λ lp n e. cycle_more _ all n (h.entered_at_one lp n e);
+        entered_at_one = λ lp n e. cycle_more new_cycle all n (h.entered_at_one lp n e);
       }
 
   -- a processor enters
@@ -305,16 +307,16 @@ module _ (newest : ℕ) (entered : List (Option ℕ)) (lps place : ℕ) (is_in :
   tracked_forward : (b : ℕ) (some : List Cycle) → AllWaitFor newest (entered_at entered) some
       → list_any (λ cycle. nat_lt b cycle.at && is_over cycle) some ≡ true → b < newest_over entered newest
   tracked_forward b [] w e = absurd (cc)
-  tracked_forward b (cycle ∷ older) w e = by (nat_lt b cycle.at && is_over cycle) refl e
+  tracked_forward b (cycle ∷ older) w e = by (tracked_forward b older w.2) (nat_lt b cycle.at && is_over cycle) refl e
     where
-      by : (here : Bool) → (nat_lt b cycle.at && is_over cycle) ≡ here
+      by : (list_any (λ cycle. nat_lt b cycle.at && is_over cycle) older ≡ true → b < newest_over entered newest) → (here : Bool) → (nat_lt b cycle.at && is_over cycle) ≡ here
           → (here || list_any (λ cycle. nat_lt b cycle.at && is_over cycle) older) ≡ true → b < newest_over entered newest
-      by true is e =
+      by rest true is e =
           let parts = and_parts (nat_lt b cycle.at) (is_over cycle) is in
           let early = over_early cycle w.0 w.1 parts.1 in
           let after = ltb-true b cycle.at parts.0 in
           omega arith
-      by false is e = tracked_forward b older w.2 e
+      by rest false is e = rest e
 
   -- the newest cycle that nobody who is inside entered before is over
   newest_is_over : (cycle : Cycle) → ((lp : ℕ) → waits_for cycle lp ≡ entered_before (entered_at entered lp) cycle.at)
@@ -329,15 +331,16 @@ module _ (newest : ℕ) (entered : List (Option ℕ)) (lps place : ℕ) (is_in :
       → list_any (λ cycle. cycle.at == newest_over entered newest) some ≡ true → b < newest_over entered newest
       → list_any (λ cycle. nat_lt b cycle.at && is_over cycle) some ≡ true
   tracked_backward b [] w e low = absurd (cc)
-  tracked_backward b (cycle ∷ older) w e low = by (cycle.at == newest_over entered newest) refl e
+  tracked_backward b (cycle ∷ older) w e low = by (λ x. tracked_backward b older w.2 x low) (cycle.at == newest_over entered newest) refl e
     where
-      by : (here : Bool) → (cycle.at == newest_over entered newest) ≡ here
+      by : (list_any (λ cycle. cycle.at == newest_over entered newest) older ≡ true → list_any (λ cycle. nat_lt b cycle.at && is_over cycle) older ≡ true)
+          → (here : Bool) → (cycle.at == newest_over entered newest) ≡ here
           → (here || list_any (λ cycle. cycle.at == newest_over entered newest) older) ≡ true
           → list_any (λ cycle. nat_lt b cycle.at && is_over cycle) (cycle ∷ older) ≡ true
-      by true is e =
+      by rest true is e =
           let same = eqb-true cycle.at (newest_over entered newest) is in
           or_left _ _ (and_from _ _ (lt-ltb b cycle.at (omega arith)) (newest_is_over cycle w.1 same))
-      by false is e = or_right _ _ (tracked_backward b older w.2 e low)
+      by rest false is e = or_right _ _ (rest e)
 
   -- what comes after the block is over just where the newest that is over does
   pub tracked-noted : (b : ℕ) → list_any (λ cycle. nat_lt b cycle.at && is_over cycle) all ≡ nat_lt b (newest_over entered newest)

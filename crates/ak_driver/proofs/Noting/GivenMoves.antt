@@ -18,13 +18,14 @@ use Rattle.ak_model.specs.Paging.Tracking.{cycles, over_after, tracked}
 use Rattle.ak_model.specs.Paging.Walk.{flags_allow, is_in_frame}
 use Rattle.ak_model.specs.Kernels.Counted.{Request, service}
 use Rattle.ak_model.specs.Kernels.KernelRules.{is_mapped}
-use Rattle.ak_model.specs.Kernels.HonestKernel.{Rule, Passes, Gives, or_else, rule_on, for_first, on_frame, move_on, load_into, enter_with, frame_of, newest_copy, lowest_free, unmap_evicted, block_rule, track_rule, write_out_rule, load_rule, map_rule, serve, next_value, rules, last_exit_is_input, inputs_asked}
+use Rattle.ak_model.specs.Kernels.Repeats.{unless_refused}
+use Rattle.ak_model.specs.Kernels.HonestKernel.{Rule, Passes, Gives, or_else, rule_on, for_first, on_frame, move_on, load_into, enter_with, frame_of, newest_copy, lowest_free, unmap_evicted, block_rule, track_rule, write_out_rule, load_rule, map_rule, serve, next_value, rules, given_by, drive, last_exit_is_input, inputs_asked}
 use Rattle.ak_driver.specs.Duties.{facts_by, frame_by, tracked_by, is_in_frame_by, is_mapped_by, wants, dropped_by, loaded_by, fetched_by, served_by, asked_rule, inside_by, ruled_by, rules_by}
 use Rattle.ak_driver.specs.NotedCounts.{value_by}
 use Rattle.ak_driver.specs.NotedCycles.{entered_at, newest_over, is_over_since}
 use Rattle.ak_driver.specs.NotedRequests.{open_request}
 use Rattle.ak_driver.specs.NotedTables.{PageFacts, facts, holding, frame_note, is_free_note}
-use Rattle.ak_driver.specs.Notes.{Notes}
+use Rattle.ak_driver.specs.Notes.{Notes, refuses}
 use Rattle.ak_driver.specs.declared.driver.Driver.{Driver}
 use Rattle.ak_driver.specs.declared.duties.Duty.{Duty}
 use Rattle.ak_driver.specs.declared.duties.Duty.TheVariants.{Unmap, Block, Track, WriteOut, Load, Map}
@@ -100,13 +101,13 @@ module _ (driver : Driver) (layout : Layout) (past : History) (h : Notes driver 
       ∙ ap (λ o. is_page_in (held layout past f) p && is_none o) (blocked_same f)
 
   -- mapped for all that a permission allows
-  maps : ℕ → Option Perm → Mapping → Bool
+  abbrev maps : ℕ → Option Perm → Mapping → Bool
   maps p perm entry = permits_by perm (strong_by perm) && (flags_allow entry.flags (strong_by perm) && is_in_frame layout past p entry.frame)
 
   mapped_same : (p : ℕ) → IsKnown p → is_mapped_by driver p (slice_get layout.perms p) ≡ is_mapped layout past p
-  unfolding maps
   mapped_same p low =
-      let perm : perm_of layout p ≡ slice_get layout.perms p = ap (λ b. if b then slice_get layout.perms p else _) (lt-ltb p (pages layout) low) in
+      let t : nat_lt p (pages layout) ≡ true = lt-ltb p (pages layout) low in
+      let perm : perm_of layout p ≡ slice_get layout.perms p = rw t refl in
       by (slice_get layout.perms p) ∙ ap (λ o. maps p o (pte layout past p)) (sym perm)
     where
       strongest : (perm : Perm) → allows perm (strong perm) ≡ true
@@ -115,7 +116,6 @@ module _ (driver : Driver) (layout : Layout) (past : History) (h : Notes driver 
       strongest Rx = refl
 
       by : (o : Option Perm) → is_mapped_by driver p o ≡ maps p o (pte layout past p)
-      unfolding maps
       by None = refl
       by (Some perm) =
           ap (λ (x : PageFacts). flags_allow x.entry.flags (strong perm) && is_in_frame_by driver p x.entry.frame) (facts_same p low)
@@ -205,3 +205,18 @@ module _ (driver : Driver) (layout : Layout) (past : History) (h : Notes driver 
       ∙ ap (λ (n : ℕ). ruled_by _ _ _ n value serving) h.counts_are.saved_is
       ∙ ap (λ (n : ℕ). ruled_by _ _ _ _ n serving) (value_same inputs)
       ∙ ap (ruled_by _ _ _ _ _) request_same
+
+  -- the next move is the one that the rules give, unless it was refused just now
+  driven : (inputs : List ℕ) (move : Option Move) → move ≡ given_by (rules_by driver layout inputs) → unless_refused past move ≡ drive layout past inputs
+  driven inputs move e = ap (unless_refused past) (e ∙ ap given_by (rules_same inputs))
+
+  pub no_move : (inputs : List ℕ) → None ≡ given_by (rules_by driver layout inputs) → None ≡ drive layout past inputs
+  no_move inputs e = driven inputs None e
+
+  pub kept_move : (inputs : List ℕ) (m : Move) → Some m ≡ given_by (rules_by driver layout inputs) → refuses driver.refused m ≡ false → Some m ≡ drive layout past inputs
+  kept_move inputs m e fresh =
+      sym (ap (λ b. if b then None else Some m) (sym (h.refused_is m) ∙ fresh)) ∙ driven inputs (Some m) e
+
+  pub refused_move : (inputs : List ℕ) (m : Move) → Some m ≡ given_by (rules_by driver layout inputs) → refuses driver.refused m ≡ true → None ≡ drive layout past inputs
+  refused_move inputs m e again =
+      sym (ap (λ b. if b then None else Some m) (sym (h.refused_is m) ∙ again)) ∙ driven inputs (Some m) e

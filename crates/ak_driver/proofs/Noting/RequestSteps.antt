@@ -14,12 +14,12 @@ use Rattle.ak_driver.specs.declared.changes.Change.TheVariants.{Unchanged, Maps,
 drop-min : (xs : List ℕ) (d : ℕ) → drop (min (length xs) d) xs ≡ drop d xs
 drop-min [] d = by (min 0 d) d
   where
-    by : (a b : ℕ) → drop a [] ≡ drop b []
+    by : (a b : ℕ) → drop {A = ℕ} a [] ≡ drop {A = ℕ} b []
     by zero zero = refl
     by zero (suc b) = refl
     by (suc a) zero = refl
     by (suc a) (suc b) = refl
-drop-min (x ∷ xs) zero = ap (λ (n : ℕ). drop n (x ∷ xs)) (omega arith)
+drop-min (x ∷ xs) zero = let e : min (suc (length xs)) 0 ≡ 0 = omega arith in ap (λ (n : ℕ). drop n (x ∷ xs)) e
 drop-min (x ∷ xs) (suc d) =
     let e : min (suc (length xs)) (suc d) ≡ suc (min (length xs) d) = omega arith in
     ap (λ (n : ℕ). drop n (x ∷ xs)) e ∙ drop-min xs d
@@ -27,12 +27,12 @@ drop-min (x ∷ xs) (suc d) =
 take-min : (xs : List ℕ) (d : ℕ) → take (min (length xs) d) xs ≡ take d xs
 take-min [] d = by (min 0 d) d
   where
-    by : (a b : ℕ) → take a [] ≡ take b []
+    by : (a b : ℕ) → take {A = ℕ} a [] ≡ take {A = ℕ} b []
     by zero zero = refl
     by zero (suc b) = refl
     by (suc a) zero = refl
     by (suc a) (suc b) = refl
-take-min (x ∷ xs) zero = ap (λ (n : ℕ). take n (x ∷ xs)) (omega arith)
+take-min (x ∷ xs) zero = let e : min (suc (length xs)) 0 ≡ 0 = omega arith in ap (λ (n : ℕ). take n (x ∷ xs)) e
 take-min (x ∷ xs) (suc d) =
     let e : min (suc (length xs)) (suc d) ≡ suc (min (length xs) d) = omega arith in
     ap (λ (n : ℕ). take n (x ∷ xs)) e ∙ ap (λ l. x ∷ l) (take-min xs d)
@@ -84,15 +84,15 @@ some_is a b h = cc
 
 numbers_most : (clusters : List ℕ) (next m : ℕ) → numbers_from clusters next ≡ Some m → m ≤ next + length clusters
 numbers_most [] next m e = let s = some_is next m e in omega arith
-numbers_most (c ∷ rest) next m e = known (nat_lt c next) e
+numbers_most (c ∷ rest) next m e = known (numbers_most rest) (nat_lt c next) e
   where
-    new : (b : Bool) → number_on (if b then Some (next + 1) else None) (numbers_from rest) ≡ Some m → m ≤ next + length (c ∷ rest)
-    new true e = let s = numbers_most rest (next + 1) m e in omega arith
-    new false e = absurd (cc)
+    new : ((next m : ℕ) → numbers_from rest next ≡ Some m → m ≤ next + length rest) → (b : Bool) → number_on (if b then Some (next + 1) else None) (numbers_from rest) ≡ Some m → m ≤ next + length (c ∷ rest)
+    new most true e = let s = most (next + 1) m e in omega arith
+    new most false e = absurd (cc)
 
-    known : (b : Bool) → number_on (if b then Some next else (if c == next then Some (next + 1) else None)) (numbers_from rest) ≡ Some m → m ≤ next + length (c ∷ rest)
-    known true e = let s = numbers_most rest next m e in omega arith
-    known false e = new (c == next) e
+    known : ((next m : ℕ) → numbers_from rest next ≡ Some m → m ≤ next + length rest) → (b : Bool) → number_on (if b then Some next else (if c == next then Some (next + 1) else None)) (numbers_from rest) ≡ Some m → m ≤ next + length (c ∷ rest)
+    known most true e = let s = most next m e in omega arith
+    known most false e = new most (c == next) e
 
 -- a layout has no more clusters than pages
 pub few_clusters : (layout : Layout) → IsValid layout → layout.clusters ≤ 512

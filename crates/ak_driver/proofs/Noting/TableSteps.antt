@@ -96,51 +96,47 @@ module _ (layout : Layout) (past : History) (frames : List FrameNote) (notes : L
   page_is_in : (f : ℕ) (x : Held) → holding x ≡ held layout past f → (p : ℕ) → is_page_in (held layout past f) p ≡ is_page_in (holding x) p
   page_is_in f x e p = ap (λ (y : Holdings.Held). is_page_in y p) (sym e)
 
+  abbrev written_at : Copy → ℕ → Bool → ℕ → PageFacts
+  written_at copy k b p = record {
+    frame = frame_in (if b then InHandle k else place layout past p);
+    entry = pte layout past p;
+    copy = if b then copy else newest_copy layout past p;
+  }
+
   written_pages : (f va : Frame) (i : ℕ) (k : Handle) (x : Held) → holding x ≡ held layout past f.0
       → PagesAre (written_out notes x (record { handle = k; va = va; slot = i })) (told (WritesOut f va i k))
   written_pages f va i k x e = by x (page_is_in f.0 x e)
     where
-      at : Bool → ℕ → PageFacts
-      at b p = record {
-        frame = frame_in (if b then InHandle k.0 else place layout past p);
-        entry = pte layout past p;
-        copy = if b then record { handle = k.0; va = va.0; slot = i } else newest_copy layout past p;
-      }
-
       none : ((p : ℕ) → is_page_in (held layout past f.0) p ≡ false) → PagesAre notes (told (WritesOut f va i k))
-      unfolding at
-      none out = (h.count, λ p low. h.facts_are p low ∙ sym (ap (λ b. at b p) (out p)))
+      none out = (h.count, λ p low. h.facts_are p low ∙ sym (ap (λ b. written_at (record { handle = k.0; va = va.0; slot = i }) k.0 b p) (out p)))
 
       by : (y : Held) → ((p : ℕ) → is_page_in (held layout past f.0) p ≡ is_page_in (holding y) p)
           → PagesAre (written_out notes y (record { handle = k; va = va; slot = i })) (told (WritesOut f va i k))
-      unfolding at
       by Free is = none is
       by Secs is = none is
       by Va is = none is
       by (Page q) is = set_page (told (WritesOut f va i k)) q.0 _
-          (λ p e. ap (λ b. at b p) (is p ∙ e))
+          (λ p e. ap (λ b. written_at (record { handle = k.0; va = va.0; slot = i }) k.0 b p) (is p ∙ e))
           (λ p low e. ap (λ (y : PageFacts). record { frame = None; entry = y.entry; copy = record { handle = k.0; va = va.0; slot = i } }) (was p q.0 low e)
-          ∙ sym (ap (λ b. at b p) (is p ∙ e)))
+          ∙ sym (ap (λ b. written_at (record { handle = k.0; va = va.0; slot = i }) k.0 b p) (is p ∙ e)))
+
+  abbrev removed_at : Bool → ℕ → PageFacts
+  removed_at b p = record { frame = frame_in (if b then Gone else place layout past p); entry = pte layout past p; copy = newest_copy layout past p }
 
   removed_pages : (f : Frame) (x : Held) → holding x ≡ held layout past f.0 → PagesAre (removed notes x) (told (Removes f))
   removed_pages f x e = by x (page_is_in f.0 x e)
     where
-      at : Bool → ℕ → PageFacts
-      at b p = record { frame = frame_in (if b then Gone else place layout past p); entry = pte layout past p; copy = newest_copy layout past p }
-
       none : ((p : ℕ) → is_page_in (held layout past f.0) p ≡ false) → PagesAre notes (told (Removes f))
-      unfolding at
-      none out = (h.count, λ p low. h.facts_are p low ∙ sym (ap (λ b. at b p) (out p)))
+      none out = (h.count, λ p low. h.facts_are p low ∙ sym (ap (λ b. removed_at b p) (out p)))
 
       by : (y : Held) → ((p : ℕ) → is_page_in (held layout past f.0) p ≡ is_page_in (holding y) p) → PagesAre (removed notes y) (told (Removes f))
-      unfolding at
       by Free is = none is
       by Secs is = none is
       by Va is = none is
       by (Page q) is = set_page (told (Removes f)) q.0 _
-          (λ p e. ap (λ b. at b p) (is p ∙ e))
+          (λ p e. ap (λ b. removed_at b p) (is p ∙ e))
           (λ p low e. ap (λ (y : PageFacts). record { frame = None; entry = y.entry; copy = y.copy }) (was p q.0 low e)
-          ∙ sym (ap (λ b. at b p) (is p ∙ e)))
+          ∙ sym (ap (λ b. removed_at b p) (is p ∙ e)))
 
   -- a sealed page that is given up is in no frame
   given_up : (x : Place) (k : ℕ) → frame_in (gone_if x k) ≡ frame_in x
@@ -213,10 +209,10 @@ module _ (layout : Layout) (past : History) (frames : List FrameNote) (notes : L
       (λ f e. ap (λ o. blocks_first o (length past + 1)) (note_of (λ (x : FrameNote). x.blocked) (blocked_at past) f g.0 e (h.blocked_is f)) ∙ sym (taken (f == g.0) _ _ e))
 
   frames_step : (change : Change) → IsThere layout (told change) → FramesAre (frames_after change (length past + 1) frames) (told change)
-  frames_step Unchanged there = kept _ (λ f. refl) (λ f. refl)
-  frames_step (Maps q f flags) there = kept _ (λ f. refl) (λ f. refl)
+  frames_step Unchanged there = kept (told Unchanged) (λ f. refl) (λ f. refl)
+  frames_step (Maps q f flags) there = kept (told (Maps q f flags)) (λ f. refl) (λ f. refl)
   frames_step (Blocks g) there = blocked_frames g there
-  frames_step Cycles there = kept _ (λ f. refl) (λ f. refl)
+  frames_step Cycles there = kept (told Cycles) (λ f. refl) (λ f. refl)
   frames_step (WritesOut g va i k) there = set_frame (told (WritesOut g va i k)) g.0 _ there
       (λ f e. passed (f == g.0) _ _ e) (λ f e. sym (taken (f == g.0) _ _ e)) (λ f e. passed (f == g.0) _ _ e) (λ f e. sym (taken (f == g.0) _ _ e))
   frames_step (Loads g k q va i blocked) there = set_frame (told (Loads g k q va i blocked)) g.0 _ there
@@ -225,11 +221,11 @@ module _ (layout : Layout) (past : History) (frames : List FrameNote) (notes : L
       (λ f e. passed (f == g.0) _ _ e) (λ f e. sym (taken (f == g.0) _ _ e)) (λ f e. passed (f == g.0) _ _ e) (λ f e. sym (taken (f == g.0) _ _ e))
   frames_step (MakesVa g) there = set_frame (told (MakesVa g)) g.0 _ there
       (λ f e. passed (f == g.0) _ _ e) (λ f e. sym (taken (f == g.0) _ _ e)) (λ f e. passed (f == g.0) _ _ e) (λ f e. sym (taken (f == g.0) _ _ e))
-  frames_step (Discards k) there = kept _ (λ f. refl) (λ f. refl)
-  frames_step (Enters lp v) there = kept _ (λ f. refl) (λ f. refl)
-  frames_step (Resumes lp) there = kept _ (λ f. refl) (λ f. refl)
-  frames_step (Exits lp exit) there = kept _ (λ f. refl) (λ f. refl)
-  frames_step (Interrupts lp) there = kept _ (λ f. refl) (λ f. refl)
+  frames_step (Discards k) there = kept (told (Discards k)) (λ f. refl) (λ f. refl)
+  frames_step (Enters lp v) there = kept (told (Enters lp v)) (λ f. refl) (λ f. refl)
+  frames_step (Resumes lp) there = kept (told (Resumes lp)) (λ f. refl) (λ f. refl)
+  frames_step (Exits lp exit) there = kept (told (Exits lp exit)) (λ f. refl) (λ f. refl)
+  frames_step (Interrupts lp) there = kept (told (Interrupts lp)) (λ f. refl) (λ f. refl)
 
   -- the notes after one more change
   pub tables_step : (change : Change) → IsThere layout (told change)
