@@ -3,7 +3,6 @@ pub mod TableSteps
 pub mod CountSteps
 pub mod CycleSteps
 pub mod RequestSteps
-pub mod EqualMoves
 pub mod GivenMoves
 pub mod NoteSteps
 pub mod AtBuild

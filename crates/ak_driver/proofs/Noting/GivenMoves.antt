@@ -16,10 +16,10 @@ use Rattle.ak_model.specs.Paging.Inside.{inside, processors}
 use Rattle.ak_model.specs.Paging.PageTable.{pte}
 use Rattle.ak_model.specs.Paging.Tracking.{cycles, over_after, tracked}
 use Rattle.ak_model.specs.Paging.Walk.{flags_allow, is_in_frame}
-use Rattle.ak_model.specs.Kernels.Counted.{Request, service}
+use Rattle.ak_model.specs.Kernels.Counted.{Request, is_pending, saved_count, service}
 use Rattle.ak_model.specs.Kernels.KernelRules.{is_mapped}
 use Rattle.ak_model.specs.Kernels.Repeats.{unless_refused}
-use Rattle.ak_model.specs.Kernels.HonestKernel.{Rule, Passes, Gives, or_else, rule_on, for_first, on_frame, move_on, load_into, enter_with, frame_of, newest_copy, lowest_free, unmap_evicted, block_rule, track_rule, write_out_rule, load_rule, map_rule, serve, next_value, rules, given_by, drive, last_exit_is_input, inputs_asked}
+use Rattle.ak_model.specs.Kernels.HonestKernel.{Rule, Passes, Gives, or_else, rule_on, for_first, on_frame, move_on, load_into, enter_with, frame_of, newest_copy, lowest_free, unmap_evicted, block_rule, track_rule, write_out_rule, load_rule, map_rule, serve, next_value, rules, given_by, drive, is_ended, last_exit_is_input, inputs_asked}
 use Rattle.ak_driver.specs.Duties.{facts_by, frame_by, tracked_by, is_in_frame_by, is_mapped_by, wants, dropped_by, loaded_by, fetched_by, served_by, asked_rule, inside_by, ruled_by, rules_by}
 use Rattle.ak_driver.specs.NotedCounts.{value_by}
 use Rattle.ak_driver.specs.NotedCycles.{entered_at, newest_over, is_over_since}
@@ -40,13 +40,15 @@ both_rules a b c d e f = ap (λ r. or_else r c) e ∙ ap (or_else b) f
 -- rules on pages, by tests that agree on them
 first_rules : (P : ℕ → Type 0) (test other : ℕ → Bool) (rule_of other_of : ℕ → Rule) (all : List ℕ) → Each P all
     → ((p : ℕ) → P p → test p ≡ other p) → ((p : ℕ) → P p → rule_of p ≡ other_of p) → for_first all test rule_of ≡ for_first all other other_of
-first_rules P test other rule_of other_of [] each tests rules = refl
-first_rules P test other rule_of other_of (p ∷ all) each tests rules =
-    ap (λ b. rule_on (cond b (Some p) (find test all)) rule_of) (tests p each.0) ∙ by (other p)
+first_rules P test other rule_of other_of [] each tests same = refl
+first_rules P test other rule_of other_of (p ∷ all) each tests same =
+    ap (λ b. rule_on (cond b (Some p) (find test all)) rule_of) (tests p each.0)
+    ∙ by (first_rules P test other rule_of other_of all each.1 tests same) (other p)
   where
-    by : (b : Bool) → rule_on (cond b (Some p) (find test all)) rule_of ≡ rule_on (cond b (Some p) (find other all)) other_of
-    by true = rules p each.0
-    by false = first_rules P test other rule_of other_of all each.1 tests rules
+    by : for_first all test rule_of ≡ for_first all other other_of → (b : Bool)
+        → rule_on (cond b (Some p) (find test all)) rule_of ≡ rule_on (cond b (Some p) (find other all)) other_of
+    by rest true = same p each.0
+    by rest false = rest
 
 frames_agree : (test other : ℕ → Bool) (o : Option ℕ) → ((f : ℕ) → test f ≡ other f) → on_frame o test ≡ on_frame o other
 frames_agree test other None h = refl
@@ -199,12 +201,16 @@ module _ (driver : Driver) (layout : Layout) (past : History) (h : Notes driver 
       let first = find (inside_by driver) (range_with_len 0 4) in
       let value = value_by counts inputs in
       let serving = asked_rule driver layout driver.requests.asked in
+      let ended = is_ended past in
+      let who = find (inside past) (processors layout) in
+      let pending = is_pending past in
+      let saved = saved_count past in
       ap (λ b. ruled_by b first counts.is_pending counts.saved value serving) h.counts_are.ended_is
-      ∙ ap (λ o. ruled_by _ o counts.is_pending counts.saved value serving) (inside_same h.valid.few_lps)
-      ∙ ap (λ b. ruled_by _ _ b counts.saved value serving) h.counts_are.pending_is
-      ∙ ap (λ (n : ℕ). ruled_by _ _ _ n value serving) h.counts_are.saved_is
-      ∙ ap (λ (n : ℕ). ruled_by _ _ _ _ n serving) (value_same inputs)
-      ∙ ap (ruled_by _ _ _ _ _) request_same
+      ∙ ap (λ o. ruled_by ended o counts.is_pending counts.saved value serving) (inside_same h.valid.few_lps)
+      ∙ ap (λ b. ruled_by ended who b counts.saved value serving) h.counts_are.pending_is
+      ∙ ap (λ (n : ℕ). ruled_by ended who pending n value serving) h.counts_are.saved_is
+      ∙ ap (λ (n : ℕ). ruled_by ended who pending saved n serving) (value_same inputs)
+      ∙ ap (ruled_by ended who pending saved (next_value past inputs)) request_same
 
   -- the next move is the one that the rules give, unless it was refused just now
   driven : (inputs : List ℕ) (move : Option Move) → move ≡ given_by (rules_by driver layout inputs) → unless_refused past move ≡ drive layout past inputs

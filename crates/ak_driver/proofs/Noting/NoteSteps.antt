@@ -1,5 +1,5 @@
 -- The driver stands for the history with one more move, and at first for the empty one.
-use Rattle.std.proofs.Common.{◌≡◌, ℕ, ◌+◌, ◌^◌, ◌<◌, ◌≤◌, Bool, List, [], ◌∷◌, length, drop, refl, ap, sym, ◌∙◌, subst, arith}
+use Rattle.std.proofs.Common.{◌≡◌, ℕ, ◌+◌, ◌^◌, ◌<◌, ◌≤◌, Bool, true, false, List, [], ◌∷◌, length, drop, refl, ap, sym, ◌∙◌, subst, arith}
 use Rattle.std.specs.Prelude.{◌&&◌, not, is_some}
 use Rattle.ak_core.specs.Layout.{Layout}
 use Rattle.ak_core.specs.declared.moves.Move.{Move}
@@ -24,6 +24,16 @@ use Rattle.ak_driver.proofs.Noting.CountSteps.{saved_count-le, inputs_asked-le, 
 use Rattle.ak_driver.proofs.Noting.CycleSteps.{cycles_step}
 use Rattle.ak_driver.proofs.Noting.RequestSteps.{requests_step}
 use Rattle.ak_driver.proofs.Noting.TableSteps.{tables_step}
+
+-- a move that was done was not refused
+pub when_done : (same done : Bool) → done ≡ true → false ≡ (same && not done)
+when_done true done e = ap not (sym e)
+when_done false done e = refl
+
+-- and one that was not done was
+pub when_refused : (same done : Bool) → done ≡ false → same ≡ (same && not done)
+when_refused true done e = ap not (sym e)
+when_refused false done e = refl
 
 -- what the counts are after a change
 pub record Counted (old new : Counts) (change : Histories.Change) : Type 0 where

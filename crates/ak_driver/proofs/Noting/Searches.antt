@@ -64,9 +64,12 @@ pub none_kept : (test keeps : ℕ → Bool) (a n : ℕ) → a ≡ n → find tes
 none_kept test keeps a n e = ap (λ xs. find test (filter keeps xs)) (none_left a n e)
 
 -- a range with one more
-pub range_more : (a n : ℕ) → range_with_len a (n + 1) ≡ range_with_len a n ++ (a + n) ∷ []
+range_more : (a n : ℕ) → range_with_len a (n + 1) ≡ range_with_len a n ++ (a + n) ∷ []
 range_more a zero = let e : 0 + 1 ≡ 1 = omega arith in let z : a ≡ a + 0 = omega arith in ap (λ (n : ℕ). range_with_len a n) e ∙ ap (λ (n : ℕ). n ∷ []) z
 range_more a (suc n) =
     let e : suc n + 1 ≡ suc (n + 1) = omega arith in
     let s : a + 1 + n ≡ a + suc n = omega arith in
     ap (λ (k : ℕ). range_with_len a k) e ∙ ap (λ xs. a ∷ xs) (range_more (a + 1) n) ∙ ap (λ (k : ℕ). a ∷ (range_with_len (a + 1) n ++ k ∷ [])) s
+
+pub range_from_zero : (n : ℕ) → range_with_len 0 (n + 1) ≡ range_with_len 0 n ++ n ∷ []
+range_from_zero n = let e : 0 + n ≡ n = omega arith in range_more 0 n ∙ ap (λ (k : ℕ). range_with_len 0 n ++ k ∷ []) e

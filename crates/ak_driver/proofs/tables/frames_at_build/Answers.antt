@@ -1,4 +1,4 @@
-use Rattle.std.proofs.Common.{◌≡◌, sym, subst, refl, arith, List}
+use Rattle.std.proofs.Common.{◌≡◌, ◌+◌, sym, subst, refl, arith, List}
 use Rattle.ak_driver.specs.declared.tables.FrameNote.{FrameNote}
 use Rattle.ak_driver.proofs.Noting.AtBuild.{FramesUpTo, one_more_frame, all_frames}
 use Rattle.ak_driver.proofs.tables.frames_at_build.Goals as goal
@@ -11,7 +11,7 @@ loop-f-preserved c =
       few = old.few;
       pages_are = old.pages_are;
       count_is = old.count_is;
-      notes = subst (λ (l : List FrameNote). FramesUpTo l layout _) (sym c.in-Ok.ensures.items)
+      notes = subst (λ (l : List FrameNote). FramesUpTo l layout (c.loop-f.f + 1)) (sym c.in-Ok.ensures.items)
           (one_more_frame c.loop-f.frames.items layout c.loop-f.f _ old.notes (c.held_at_build.ensures layout c.build.ensures old.pages_are) refl);
     }
 

@@ -30,6 +30,6 @@ loop-c-preserved c =
     let low : i < length all = omega (arith, c.loop-c-test.true, ap length c.dropped-c-items.ensures) in
     let x = get_or all i 0 in
     let none : find test (pages_of layout x) ≡ None =
-    ap (λ xs. find test (pages_of layout (get_or xs i 0))) (sym c.dropped-c-items.ensures) ∙ sym c.in_default.ensures.page ∙ (let h = c.in_default.is in let g = c.in_default.not-Some in ?) in
+    ap (λ xs. find test (pages_of layout (get_or xs i 0))) (sym c.dropped-c-items.ensures) ∙ sym c.in_default.ensures.page in
     sym (ap (λ xs. find test (flat_map (pages_of layout) xs)) (drop_more all i 0 low)
     ∙ find-append test (pages_of layout x) (flat_map (pages_of layout) (drop (i + 1) all)) none) ∙ c.loop-c.invariant

@@ -19,7 +19,9 @@ loop-p-preserved c =
     let low = c.loop-p-test.true in
     let left : find test (filter keeps (range_with_len (p + 1) (n - (p + 1)))) ≡ find test (filter keeps (range_with_len p (n - p))) =
     elim c.else-cluster_of-p.branch [
-      | else-cluster_of-p-via-then-cluster_of-p+else-wants w ↦ (let h = w.if-cluster_of-p.true in let g = w.if-wants.false in let k = w.wants.ensures in ?)
-      | else-cluster_of-p-via-else-cluster_of-p w ↦ (let h = w.if-cluster_of-p.false in ?)
+      | else-cluster_of-p-via-then-cluster_of-p+else-wants w ↦ kept_passed test keeps p n low
+          (eq-eqb (cluster_at layout p) c.args.c (ap (λ xs. get_or xs p 0) (sym old.clusters) ∙ w.if-cluster_of-p.true)) (sym w.wants.ensures ∙ w.if-wants.false)
+      | else-cluster_of-p-via-else-cluster_of-p w ↦ left_out test keeps p n low
+          (ne_eqb (cluster_at layout p) c.args.c (λ e. w.if-cluster_of-p.false (ap (λ xs. get_or xs p 0) old.clusters ∙ e)))
     ] in
     record { valid = old.valid; all = old.all; clusters = old.clusters; left = left ∙ old.left }
