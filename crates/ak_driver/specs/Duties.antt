@@ -1,5 +1,5 @@
 -- What the code does to a page, and the moves that it gives for an open request, by what it keeps.
-use Rattle.std.specs.Prelude.{ℕ, Bool, true, false, not, ◌&&◌, List, take, find, flat_map, Option, Some, None, option_map, is_some, is_none, slice_get, ◌==◌, if◌then◌else◌}
+use Rattle.std.specs.Prelude.{ℕ, Bool, false, not, ◌&&◌, List, take, find, flat_map, Option, Some, None, option_map, is_some, is_none, slice_get, ◌==◌, if◌then◌else◌}
 use Rattle.std.specs.List.{range_with_len}
 use Rattle.ak_core.specs.Layout.{Layout}
 use Rattle.ak_core.specs.declared.moves.Move.TheVariants.{SetPte, Eblock, Etrack, Ewb, Eresume, Run}
@@ -8,7 +8,7 @@ use Rattle.ak_core.specs.declared.page.Perm.{Perm}
 use Rattle.ak_model.specs.Paging.Pages.{pages_of, perm_of, strong, strong_flags, no_flags}
 use Rattle.ak_model.specs.Paging.Holdings.{is_page_in}
 use Rattle.ak_model.specs.Paging.Walk.{flags_allow}
-use Rattle.ak_model.specs.Kernels.HonestKernel.{Copy, Rule, Passes, Gives, or_else, rule_on, for_first, on_frame, move_on, load_into, enter_with}
+use Rattle.ak_model.specs.Kernels.HonestKernel.{Rule, Passes, Gives, or_else, rule_on, for_first, on_frame, move_on, load_into, enter_with}
 use Rattle.ak_driver.specs.NotedCounts.{value_by}
 use Rattle.ak_driver.specs.NotedTables.{holding, frame_note, page_note, noted, is_free_note, PageFacts}
 use Rattle.ak_driver.specs.NotedCycles.{entered_at, newest_over, is_over_since}

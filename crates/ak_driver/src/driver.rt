@@ -70,13 +70,7 @@ impl Driver {
         ensures { (past : History) → Notes self.now layout.now past → result ≡ drive layout.now past inputs.now }
     {
         match self.ruled(layout, inputs) {
-            Some(m) => {
-                if self.was_refused(&m) {
-                    None
-                } else {
-                    Some(m)
-                }
-            }
+            Some(m) => { if self.was_refused(&m) { None } else { Some(m) } }
             None => None,
         }
     }

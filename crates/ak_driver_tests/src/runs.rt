@@ -22,6 +22,22 @@ const EXECUTABLE: Flags = Flags {
     d: true,
 };
 
+const WRITABLE: Flags = Flags {
+    p: true,
+    w: true,
+    x: false,
+    a: true,
+    d: true,
+};
+
+const READABLE: Flags = Flags {
+    p: true,
+    w: false,
+    x: false,
+    a: true,
+    d: true,
+};
+
 const ENTER: (Move, Answer) = (Move::Eenter(Lp(0), 0), Answer::Ok);
 const RESUME: (Move, Answer) = (Move::Eresume(Lp(0)), Answer::Ok);
 const TRACK: (Move, Answer) = (Move::Etrack, Answer::Ok);
@@ -82,6 +98,18 @@ fn five_pages(alloc: Global) -> Result<Layout, OutOfMemory> {
         return Err(OutOfMemory);
     };
     Ok(Layout::new(65536, 0, perms, cluster_of, 5, 4, 12, 1, Build::Sealed))
+}
+
+// Two clusters of two pages, which differ in what they allow.
+#[tactic(auto, unfolding(ak_core::specs::Layout::enclave_size))]
+fn two_pages_each(alloc: Global) -> Result<Layout, OutOfMemory> {
+    let Ok(perms) = vec![in alloc; Perm::Rx, Perm::Rw, Perm::R, Perm::Rw] else {
+        return Err(OutOfMemory);
+    };
+    let Ok(cluster_of) = vec![in alloc; 0, 1, 1, 0] else {
+        return Err(OutOfMemory);
+    };
+    Ok(Layout::new(65536, 0, perms, cluster_of, 2, 4, 12, 2, Build::Sealed))
 }
 
 // The first move that is another than this, by its number.
@@ -182,6 +210,92 @@ fn a_full_enclave_is_paged(rt: HostRuntime) -> Result<(), Fail> {
         run(Exit::Ready),
         RESUME,
     ];
+    assert_eq!(rt; first_wrong(&mut driver, &layout, &[], &pairs), None);
+    Ok(())
+}
+
+#[test]
+fn pages_of_a_cluster_leave_and_come_together(rt: HostRuntime) -> Result<(), Fail> {
+    let layout = two_pages_each(rt.alloc())?;
+    let mut driver = Driver::new(rt.alloc(), &layout)?;
+    let pairs = [
+        ENTER,
+        faults(),
+        ENTER,
+        run(Exit::Ask(0, 0)),
+        load(8, 0),
+        load(9, 3),
+        map(0, 8),
+        (
+            Move::SetPte(Page(3), Frame(9), WRITABLE),
+            Answer::Ok,
+        ),
+        ENTER,
+        run(Exit::Ready),
+        RESUME,
+        faults(),
+        ENTER,
+        run(Exit::Ask(1, 1)),
+        unmap(0),
+        unmap(3),
+        (Move::Eblock(Frame(8)), Answer::Ok),
+        (Move::Eblock(Frame(9)), Answer::Ok),
+        TRACK,
+        write_out(8, 0, 4),
+        write_out(9, 3, 5),
+        load(8, 1),
+        load(9, 2),
+        (
+            Move::SetPte(Page(1), Frame(8), WRITABLE),
+            Answer::Ok,
+        ),
+        (
+            Move::SetPte(Page(2), Frame(9), READABLE),
+            Answer::Ok,
+        ),
+        ENTER,
+    ];
+    assert_eq!(rt; first_wrong(&mut driver, &layout, &[], &pairs), None);
+    Ok(())
+}
+
+// A cycle waits for the other processor, which entered before it.
+#[test]
+fn a_frame_is_tracked_once_those_inside_have_left(rt: HostRuntime) -> Result<(), Fail> {
+    let layout = two_pages_each(rt.alloc())?;
+    let mut driver = Driver::new(rt.alloc(), &layout)?;
+    let pairs = [
+        ENTER,
+        faults(),
+        ENTER,
+        run(Exit::Ask(0, 0)),
+        load(8, 0),
+        load(9, 3),
+        map(0, 8),
+        (
+            Move::SetPte(Page(3), Frame(9), WRITABLE),
+            Answer::Ok,
+        ),
+        ENTER,
+        run(Exit::Ready),
+    ];
+    assert_eq!(rt; first_wrong(&mut driver, &layout, &[], &pairs), None);
+    // another kernel's moves: a cycle begins while the second processor is inside
+    let others = [
+        (Move::Eresume(Lp(1)), Answer::Ok),
+        (Move::Eblock(Frame(8)), Answer::Ok),
+        (Move::Eblock(Frame(9)), Answer::Ok),
+        TRACK,
+        (Move::Etrack, Answer::PrevIncomplete),
+        (Move::Run(Lp(1), 1), Answer::Exit(Exit::Pf(65536, 4))),
+        ENTER,
+        run(Exit::Ask(1, 1)),
+        unmap(0),
+    ];
+    for (m, a) in &others {
+        driver.note(m, a);
+    }
+    let pairs = [unmap(3), write_out(8, 0, 4), write_out(9, 3, 5)];
     assert_eq!(rt; first_wrong(&mut driver, &layout, &[], &pairs), None);
     Ok(())
 }

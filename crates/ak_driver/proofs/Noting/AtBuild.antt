@@ -1,6 +1,6 @@
 -- What is noted at the build.
-use Rattle.std.proofs.Common.{◌≡◌, ℕ, zero, suc, ◌+◌, ◌-◌, ◌<◌, ◌≤◌, Bool, true, false, ◌==◌, if◌then◌else◌, List, [], ◌∷◌, ◌++◌, length, get_or, refl, ap, sym, ◌∙◌, arith, ◌⊎◌, inl, inr, length-append}
-use Rattle.std.specs.Prelude.{Option, Some, None, nat_lt, slice_get}
+use Rattle.std.proofs.Common.{◌≡◌, ℕ, zero, suc, ◌+◌, ◌-◌, ◌<◌, ◌≤◌, true, false, ◌==◌, if◌then◌else◌, List, [], ◌∷◌, ◌++◌, length, get_or, refl, ap, sym, ◌∙◌, arith, ◌⊎◌, inl, inr, length-append}
+use Rattle.std.specs.Prelude.{Some, None, nat_lt, slice_get}
 use Rattle.std.proofs.lemmas.Bool.{cases_lt, lt-ltb, le-ltb}
 use Rattle.std.proofs.lemmas.Bool.Decides.{eqb_tells}
 use Rattle.std.proofs.Math.ListN.{get_or-eq_default}
@@ -9,10 +9,10 @@ use Rattle.ak_core.specs.declared.build.Build.{Build}
 use Rattle.ak_core.specs.declared.build.Build.TheVariants.{Resident, Sealed as SealedBuild}
 use Rattle.ak_core.specs.declared.page.Perm.{Perm}
 use Rattle.ak_model.specs.Paging.Pages.{pages, perm_of, strong_flags}
-use Rattle.ak_model.specs.Paging.Holdings.{Held, FreeFrame, PageFrame}
-use Rattle.ak_model.specs.Paging.Build.{held_at_build, later_frame, program_place, program_entry, place_at_build, entry_at_build}
+use Rattle.ak_model.specs.Paging.Holdings.{FreeFrame, PageFrame}
+use Rattle.ak_model.specs.Paging.Build.{held_at_build, later_frame, program_place, program_entry}
 use Rattle.ak_model.specs.Kernels.HonestKernel.{frame_in}
-use Rattle.ak_driver.specs.NotedTables.{holding, free_note, frame_note, no_page, page_note, noted, PageFacts, facts, facts_at_build, AreFramesAtBuild, ArePagesAtBuild}
+use Rattle.ak_driver.specs.NotedTables.{holding, free_note, frame_note, no_page, page_note, noted, facts, facts_at_build, AreFramesAtBuild, ArePagesAtBuild}
 use Rattle.ak_driver.specs.declared.tables.FrameNote.{FrameNote}
 use Rattle.ak_driver.specs.declared.tables.PageNote.{PageNote}
 

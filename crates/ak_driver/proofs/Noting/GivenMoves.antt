@@ -1,14 +1,13 @@
 -- The moves that the code gives by what it keeps are those of the honest kernel.
-use Rattle.std.proofs.Common.{◌≡◌, ℕ, zero, suc, ◌+◌, ◌-◌, ◌<◌, ◌≤◌, Bool, true, false, ◌==◌, if◌then◌else◌, List, [], ◌∷◌, length, take, refl, ap, sym, ◌∙◌, subst, arith}
+use Rattle.std.proofs.Common.{◌≡◌, ℕ, zero, suc, ◌+◌, ◌-◌, ◌<◌, ◌≤◌, Bool, true, false, if◌then◌else◌, List, [], ◌∷◌, length, refl, ap, sym, ◌∙◌, arith}
 use Rattle.std.specs.Prelude.{Option, Some, None, is_some, is_none, not, ◌&&◌, cond, find, flat_map, nat_lt, slice_get, slice_index}
 use Rattle.std.specs.List.{range_with_len}
 use Rattle.std.proofs.lemmas.Bool.{lt-ltb}
 use Rattle.ak_core.specs.Layout.{Layout}
 use Rattle.ak_core.specs.declared.moves.Move.{Move}
-use Rattle.ak_core.specs.declared.moves.Move.TheVariants.{SetPte, Eblock, Etrack, Ewb}
 use Rattle.ak_core.specs.declared.page.Perm.{Perm}
 use Rattle.ak_core.specs.declared.page.Perm.TheVariants.{R, Rw, Rx}
-use Rattle.ak_model.specs.Paging.Pages.{pages, pages_of, perm_of, strong, strong_by, strong_flags, no_flags, permits_by, allows}
+use Rattle.ak_model.specs.Paging.Pages.{pages, pages_of, perm_of, strong, strong_by, permits_by, allows}
 use Rattle.ak_model.specs.Paging.Histories.{History}
 use Rattle.ak_model.specs.Paging.Holdings.{Held, Mapping, is_free, is_page_in}
 use Rattle.ak_model.specs.Paging.Frames.{held, blocked_at}
@@ -16,19 +15,18 @@ use Rattle.ak_model.specs.Paging.Inside.{inside, processors}
 use Rattle.ak_model.specs.Paging.PageTable.{pte}
 use Rattle.ak_model.specs.Paging.Tracking.{cycles, over_after, tracked}
 use Rattle.ak_model.specs.Paging.Walk.{flags_allow, is_in_frame}
-use Rattle.ak_model.specs.Kernels.Counted.{Request, is_pending, saved_count, service}
+use Rattle.ak_model.specs.Kernels.Counted.{is_pending, saved_count, service}
 use Rattle.ak_model.specs.Kernels.KernelRules.{is_mapped}
 use Rattle.ak_model.specs.Kernels.Repeats.{unless_refused}
-use Rattle.ak_model.specs.Kernels.HonestKernel.{Rule, Passes, Gives, or_else, rule_on, for_first, on_frame, move_on, load_into, enter_with, frame_of, newest_copy, lowest_free, unmap_evicted, block_rule, track_rule, write_out_rule, load_rule, map_rule, serve, next_value, rules, given_by, drive, is_ended, last_exit_is_input, inputs_asked}
+use Rattle.ak_model.specs.Kernels.HonestKernel.{Rule, or_else, rule_on, for_first, on_frame, move_on, load_into, enter_with, frame_of, newest_copy, lowest_free, load_rule, map_rule, serve, next_value, rules, given_by, drive, is_ended, last_exit_is_input}
 use Rattle.ak_driver.specs.Duties.{facts_by, frame_by, tracked_by, is_in_frame_by, is_mapped_by, wants, dropped_by, loaded_by, fetched_by, served_by, asked_rule, inside_by, ruled_by, rules_by}
 use Rattle.ak_driver.specs.NotedCounts.{value_by}
-use Rattle.ak_driver.specs.NotedCycles.{entered_at, newest_over, is_over_since}
+use Rattle.ak_driver.specs.NotedCycles.{newest_over, is_over_since}
 use Rattle.ak_driver.specs.NotedRequests.{open_request}
-use Rattle.ak_driver.specs.NotedTables.{PageFacts, facts, holding, frame_note, is_free_note}
+use Rattle.ak_driver.specs.NotedTables.{PageFacts, facts, holding, is_free_note}
 use Rattle.ak_driver.specs.Notes.{Notes, refuses}
 use Rattle.ak_driver.specs.declared.driver.Driver.{Driver}
-use Rattle.ak_driver.specs.declared.duties.Duty.{Duty}
-use Rattle.ak_driver.specs.declared.duties.Duty.TheVariants.{Unmap, Block, Track, WriteOut, Load, Map}
+use Rattle.ak_driver.specs.declared.duties.Duty.TheVariants.{Unmap, Block, Track}
 use Rattle.ak_driver.proofs.Serving.Finding.{Each, each_more, IsOf, IsAmong, each_of, each_among}
 use Rattle.ak_driver.proofs.Noting.CycleSteps.{tracked-noted}
 

@@ -1,10 +1,10 @@
 -- What is kept of the clusters and the request, step by step.
-use Rattle.std.proofs.Common.{◌≡◌, ℕ, zero, suc, ◌+◌, ◌≤◌, ◌<◌, Bool, true, false, ◌==◌, if◌then◌else◌, List, [], ◌∷◌, ◌++◌, length, take, drop, refl, ap, sym, ◌∙◌, subst, arith}
+use Rattle.std.proofs.Common.{◌≡◌, ℕ, zero, suc, ◌+◌, ◌≤◌, Bool, true, false, ◌==◌, if◌then◌else◌, List, [], ◌∷◌, ◌++◌, length, take, drop, refl, ap, ◌∙◌, subst, arith}
 use Rattle.std.specs.Prelude.{Option, Some, None, min, nat_lt}
-use Rattle.ak_core.specs.Layout.{Layout, IsValid, number_on, next_number, numbers_from}
+use Rattle.ak_core.specs.Layout.{Layout, IsValid, number_on, numbers_from}
 use Rattle.ak_core.specs.declared.moves.Exit.{Exit}
 use Rattle.ak_core.specs.declared.moves.Exit.TheVariants.{Still, Pf, Vector, Call, Ask, Ready, Nothing, Stopped, Ended, Trapped}
-use Rattle.ak_model.specs.Kernels.Counted.{Request, Service, with_served, service_by, service_after}
+use Rattle.ak_model.specs.Kernels.Counted.{Service, with_served, service_by, service_after}
 use Rattle.ak_driver.specs.Changes.{told}
 use Rattle.ak_driver.specs.NotedRequests.{Kept, served, kept_by, kept_after, open_request, AreRequests}
 use Rattle.ak_driver.specs.declared.changes.Change.{Change}

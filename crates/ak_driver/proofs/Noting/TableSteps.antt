@@ -1,8 +1,6 @@
 -- The notes of frames and pages, step by step.
-use Rattle.std.proofs.Common.{◌≡◌, ℕ, suc, ◌+◌, ◌<◌, ◌≤◌, Bool, true, false, ◌==◌, if◌then◌else◌, List, [], ◌∷◌, length, get_or, set, refl, ap, sym, ◌∙◌, subst, arith, inl, inr, get_or-set_same, get_or-set_other}
-use Rattle.std.specs.Prelude.{Option, Some, None, option_map}
-use Rattle.std.specs.Bool.{then_some}
-use Rattle.std.proofs.lemmas.Bool.{eq-eqb}
+use Rattle.std.proofs.Common.{◌≡◌, ℕ, ◌+◌, ◌<◌, ◌≤◌, Bool, true, false, ◌==◌, if◌then◌else◌, List, length, get_or, set, refl, ap, sym, ◌∙◌, arith, inl, inr, get_or-set_same, get_or-set_other}
+use Rattle.std.specs.Prelude.{Some, None}
 use Rattle.std.proofs.lemmas.Bool.Decides.{eqb_tells}
 use Rattle.std.proofs.Math.ListN.{length-set}
 use Rattle.ak_core.specs.Layout.{Layout}
@@ -16,7 +14,7 @@ use Rattle.ak_model.specs.Paging.Histories.{History}
 use Rattle.ak_model.specs.Paging.Holdings
 use Rattle.ak_model.specs.Paging.Holdings.{Place, InFrame, InHandle, Gone, is_page_in}
 use Rattle.ak_model.specs.Paging.Frames.{held, held_after, blocked_at, blocked_after, blocks_first}
-use Rattle.ak_model.specs.Paging.Handles.{place, place_after, gone_if}
+use Rattle.ak_model.specs.Paging.Handles.{place, gone_if}
 use Rattle.ak_model.specs.Paging.PageTable.{pte}
 use Rattle.ak_model.specs.Kernels.HonestKernel.{Copy, frame_in, frame_of, newest_copy}
 use Rattle.ak_driver.specs.Changes.{told}
@@ -27,7 +25,6 @@ use Rattle.ak_driver.specs.declared.tables.Held.{Held}
 use Rattle.ak_driver.specs.declared.tables.Held.TheVariants.{Free, Secs, Va, Page}
 use Rattle.ak_driver.specs.declared.tables.FrameNote.{FrameNote}
 use Rattle.ak_driver.specs.declared.tables.PageNote.{PageNote}
-use Rattle.ak_driver.specs.declared.tables.SealedCopy.{SealedCopy}
 
 -- ---- One note is set
 
@@ -50,7 +47,6 @@ passed b x y e = ap (λ c. if c then x else y) e
 
 module _ (layout : Layout) (past : History) (frames : List FrameNote) (notes : List PageNote)
     (h : AreTables frames notes layout (held layout past) (blocked_at past) (facts layout past)) where
-
   -- ---- Pages
 
   -- the pages are as this change leaves them
@@ -182,8 +178,7 @@ module _ (layout : Layout) (past : History) (frames : List FrameNote) (notes : L
       → FramesAre (set frames g note) change
   set_frame change g note low other same other_block same_block =
       let n = h.room in
-      let size = length-set frames g note in
-      (
+      let size = length-set frames g note in (
         omega arith,
         λ f. set_tells (λ (x : FrameNote). holding x.held) free_note frames g note (held layout past f) _ f (h.held_is f) (other f) (λ e. omega arith) (same f),
         λ f. set_tells (λ (x : FrameNote). x.blocked) free_note frames g note (blocked_at past f) _ f (h.blocked_is f) (other_block f) (λ e. omega arith) (same_block f),
@@ -230,7 +225,7 @@ module _ (layout : Layout) (past : History) (frames : List FrameNote) (notes : L
   -- the notes after one more change
   pub tables_step : (change : Change) → IsThere layout (told change)
       → AreTables (frames_after change (length past + 1) frames) (pages_after change frames notes) layout (λ f. held_after (told change) f (held layout past f))
-          (λ f. blocked_after (told change) f (length past + 1) (blocked_at past f)) (facts_after layout past (told change))
+      (λ f. blocked_after (told change) f (length past + 1) (blocked_at past f)) (facts_after layout past (told change))
   tables_step change there =
       let a = frames_step change there in
       let b = pages_step change in

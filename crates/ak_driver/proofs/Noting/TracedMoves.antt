@@ -1,5 +1,5 @@
 -- What a trace tells may come next.
-use Rattle.std.proofs.Common.{◌≡◌, ℕ, suc, ◌+◌, ◌^◌, ◌<◌, ◌≤◌, Bool, true, false, eqb, List, [], ◌∷◌, length, refl, ap, sym, ◌∙◌, subst, arith}
+use Rattle.std.proofs.Common.{◌≡◌, ℕ, suc, ◌^◌, ◌<◌, ◌≤◌, Bool, true, false, eqb, List, [], ◌∷◌, length, refl, ap, sym, arith}
 use Rattle.std.specs.Prelude.{All, not, nat_lt, ◌==◌, ◌||◌, if◌then◌else◌}
 use Rattle.std.specs.List.{IsDistinct as HasDistinctKeys, AllByRecursion, list_any}
 use Rattle.std.proofs.lemmas.Bool.{or_parts, eqb-true, eqb-false, ne_eqb, ltb-true, not-false}
@@ -14,13 +14,13 @@ use Rattle.ak_core.specs.declared.moves.Move.TheVariants.{SetPte, ReadPte, Ebloc
 use Rattle.ak_model.specs.Clusters.Queue.{is_in}
 use Rattle.ak_model.specs.Control.Answers.{answer}
 use Rattle.ak_model.specs.Control.ControlState.{Control}
-use Rattle.ak_model.specs.Control.LeafRows.{frame_row, leaf_row}
+use Rattle.ak_model.specs.Control.LeafRows.{frame_row}
 use Rattle.ak_model.specs.Control.Trace.{trace}
 use Rattle.ak_model.specs.Kernels.Counted.{service}
 use Rattle.ak_model.specs.Laws.Orderly.{IsDistinct}
 use Rattle.ak_model.specs.Laws.Premises.{MissesFit}
 use Rattle.ak_model.specs.Paging.Build.{queue_at_build}
-use Rattle.ak_model.specs.Paging.Histories.{History, Change, Unchanged, Maps, Blocks, Cycles, WritesOut, Loads, Removes, MakesVa, Discards, Enters, Resumes, Exits, Interrupts, change}
+use Rattle.ak_model.specs.Paging.Histories.{History, Maps, Blocks, Cycles, WritesOut, Loads, Removes, MakesVa, Discards, Enters, Resumes, Exits, Interrupts, change}
 use Rattle.ak_model.specs.Paging.Views.{View, view_of}
 use Rattle.ak_model.proofs.Control.OneInsideTrace.{counts_right}
 use Rattle.ak_model.proofs.Control.OrderlyMoments.{trace_is_orderly}

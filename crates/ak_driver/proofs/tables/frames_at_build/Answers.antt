@@ -1,4 +1,4 @@
-use Rattle.std.proofs.Common.{◌≡◌, ◌+◌, sym, subst, refl, arith, List}
+use Rattle.std.proofs.Common.{◌+◌, sym, subst, refl, arith, List}
 use Rattle.ak_driver.specs.declared.tables.FrameNote.{FrameNote}
 use Rattle.ak_driver.proofs.Noting.AtBuild.{FramesUpTo, one_more_frame, all_frames}
 use Rattle.ak_driver.proofs.tables.frames_at_build.Goals as goal
