@@ -1,4 +1,5 @@
 pub mod Invariant
+pub mod Noting
 pub mod Pages
 pub mod Turns
 pub mod Serving

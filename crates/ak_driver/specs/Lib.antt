@@ -1,3 +1,10 @@
-pub mod HonestRuns
+pub mod Changes
+pub mod Duties
 pub mod EndingExits
+pub mod HonestRuns
+pub mod NotedCounts
+pub mod NotedCycles
+pub mod NotedRequests
+pub mod NotedTables
+pub mod Notes
 pub mod Requests

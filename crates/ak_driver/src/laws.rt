@@ -1,19 +1,24 @@
-// Laws on the runs of the honest kernel.
+// Laws on the runs of the honest kernel, and on what it is told.
+ghost use Rattle.ak_core.specs.Layout.{IsValid};
 ghost use Rattle.ak_core.specs.declared.event.Event.{Event};
 ghost use Rattle.ak_core.specs.declared.moves.Answer.{Answer};
 ghost use Rattle.ak_core.specs.declared.moves.Exit.TheVariants.{Ready};
 ghost use Rattle.ak_core.specs.declared.moves.Move.{Move};
 ghost use Rattle.ak_driver.specs.EndingExits.{last_is_result};
 ghost use Rattle.ak_driver.specs.HonestRuns.{IsHonestRun};
+ghost use Rattle.ak_driver.specs.Notes.{IsPlausible};
 ghost use Rattle.ak_driver.specs.Requests.{IsAsked, answer_after, is_run, pages_dropped, pages_fetched};
 ghost use Rattle.ak_model.specs.Control.Trace.{trace};
 ghost use Rattle.ak_model.specs.Kernels.Evictions.{Evicts};
 ghost use Rattle.ak_model.specs.Kernels.HonestKernel.{drive};
 ghost use Rattle.ak_model.specs.Kernels.KernelRules.{Honours};
 ghost use Rattle.ak_model.specs.Kernels.Repeats.{is_done};
+ghost use Rattle.ak_model.specs.Laws.Premises.{MissesFit};
+ghost use Rattle.ak_model.specs.Paging.Build.{queue_at_build};
+ghost use Rattle.ak_model.specs.Paging.Histories.{change};
 ghost use Rattle.ak_model.specs.Stops.ShownStop.{shows_stop};
 ghost use Rattle.std.specs.List.{list_all};
-ghost use Rattle.std.specs.Prelude.{List, None, false, length, true, ℕ, ◌*◌, ◌+◌, ◌++◌, ◌∷◌, ◌≡◌, ◌≤◌};
+ghost use Rattle.std.specs.Prelude.{List, None, false, length, true, ℕ, ◌*◌, ◌+◌, ◌^◌, ◌<◌, ◌++◌, ◌∷◌, ◌≡◌, ◌≤◌};
 ghost use Rattle.ak_core.specs.Layout;
 
 /// The honest kernel keeps the rules of a well-behaved kernel, and it evicts.
@@ -45,4 +50,12 @@ pub fn asks_are_served()
     ensures ready { (layout : Layout.Layout) (tape : List Event) (inputs : List ℕ) (before since : List Move) (ask m : Move) (d c : ℕ)
         → IsHonestRun layout tape inputs (m ∷ since ++ ask ∷ before) → IsAsked layout tape before ask since d c → is_run m ≡ true
         → answer_after layout tape (since ++ ask ∷ before) m ≡ Answer.Exit Ready }
+{}
+
+/// What a trace tells may be told: each move, with its answer, may come next after the moves before it, whatever the kernel does,
+/// as long as each miss on the tape is of a cluster that is out.
+pub fn traced_moves_are_plausible()
+    ensures { (layout : Layout.Layout) (tape : List Event) (moves : List Move) (m : Move) → IsValid layout
+        → MissesFit layout (queue_at_build layout.build layout) tape → length moves < 2 ^ 31
+        → IsPlausible layout (trace layout tape moves).past (change m (answer_after layout tape moves m)) }
 {}
