@@ -2,7 +2,7 @@
 -- moment of a trace.
 use Rattle.std.proofs.Common.{◌≡◌, ℕ, ◌<◌, Bool, true, false, List, [], ◌∷◌, length, refl, ap, sym, ◌∙◌, subst}
 use Rattle.std.proofs.lemmas.Bool.{and_parts}
-use Rattle.std.specs.Prelude.{Option, Some, None, ◌&&◌, ◌||◌, not, nat_le, ◌+◌, is_some}
+use Rattle.std.specs.Prelude.{Option, Some, None, ◌&&◌, ◌||◌, not, nat_le, ◌+◌, is_some, if◌then◌else◌}
 use Rattle.ak_core.specs.Layout.{Layout}
 use Rattle.ak_core.specs.Mem.{Access, access_to}
 use Rattle.ak_core.specs.declared.page.Entry.{Entry}
@@ -77,14 +77,18 @@ walks_by layout past cpu table encls state h m t low =
 
 -- ---- What was cached
 
+-- the frame of one
+abbrev pub frame_of : Fill → Frame
+frame_of fill = record { 0 = fill.frame }
+
 -- what has a frame was cached
 pub framed_filled : (fills : List Fill) (t : Access) (f : Frame) → frame_for fills t ≡ Some f → is_filled fills t ≡ true
 framed_filled [] t f e = cc
-framed_filled (fill ∷ fills) t f e = by_test (same_access t fill.access) refl e
+framed_filled (fill ∷ fills) t f e = by_test (same_access t fill.access) e (framed_filled fills t f)
   where
-    by_test : (b : Bool) → same_access t fill.access ≡ b → frame_for (fill ∷ fills) t ≡ Some f → is_filled (fill ∷ fills) t ≡ true
-    by_test true is e = rw is refl
-    by_test false is e = rw is (framed_filled fills t f (rw is at e))
+    by_test : (b : Bool) → (if b then Some (frame_of fill) else frame_for fills t) ≡ Some f → (frame_for fills t ≡ Some f → is_filled fills t ≡ true) → (b || is_filled fills t) ≡ true
+    by_test true e more = refl
+    by_test false e more = more e
 
 -- what was reached is permitted
 reached_permitted : (layout : Layout) (place : ℕ) (past : History) (t : Access) → reached_since layout place past t ≡ true → permits layout t.page.0 t.kind ≡ true
@@ -116,7 +120,7 @@ entered past lp within = by_place (since past lp) refl within
   where
     by_place : (o : Option ℕ) → since past lp ≡ o → is_some o ≡ true → IsStayOf past lp
     by_place (Some place) e some = record { place = place; is = e }
-    by_place None e some = cc
+    by_place None e some = absurd (cc)
 
 -- it is known where a machine of theirs stands, with the processor inside in the program's mode
 pub known : (layout : Layout) (cpu : Cpu) (table : List Pte) (encls : Enclave) (image : List ℕ) (past : History) (control : Control) (turns : List ProgramTurn) (state : State)
