@@ -83,16 +83,17 @@ module _ (layout : Layout) (cpu : Cpu) (table : List Pte) (encls : Enclave) (k :
     fill_bytes : (flat : Flat) (fills : List Fill) (t : Access) (f : Frame) → t.page.0 < pages layout → SeenFills layout state flat fills → frame_for fills t ≡ Some f
         → state.frames f.0 ≡ page_bytes flat t.page.0
     fill_bytes flat [] t f low seen e = cc
-    fill_bytes flat (fill ∷ fills) t f low seen e = by_test (same_access t fill.access) refl e
+    fill_bytes flat (fill ∷ fills) t f low seen e = by_test (same_access t fill.access) refl e (fill_bytes flat fills t f low seen.1)
       where
-        by_test : (b : Bool) → same_access t fill.access ≡ b → (if b then Some (frame_of fill) else frame_for fills t) ≡ Some f → state.frames f.0 ≡ page_bytes flat t.page.0
-        by_test true is e =
+        by_test : (b : Bool) → same_access t fill.access ≡ b → (if b then Some (frame_of fill) else frame_for fills t) ≡ Some f
+            → (frame_for fills t ≡ Some f → state.frames f.0 ≡ page_bytes flat t.page.0) → state.frames f.0 ≡ page_bytes flat t.page.0
+        by_test true is e more =
             let same : t ≡ fill.access = access_is t fill.access is in
             let frame : frame_of fill ≡ f = cc in
             ap (λ (g : Frame). state.frames g.0) (sym frame)
             ∙ seen.0 (subst (λ (u : Access). u.page.0 < pages layout) same low)
             ∙ ap (λ (u : Access). page_bytes flat u.page.0) (sym same)
-        by_test false is e = fill_bytes flat fills t f low seen.1 e
+        by_test false is e more = more e
 
     -- the frame in which an access is granted has the program's bytes
     frame_bytes : (flat : Flat) → Sees layout state cpu.lp.0 flat → (t : Access) (f : Frame) → t.page.0 < pages layout → granted_frame encls.entries table cpu.tlb t ≡ Some f

@@ -71,7 +71,7 @@ vector_fits : (v : ℕ) → IsTrue (is_vector v) → (v ≢ 14) × (v < 256)
 vector_fits v some = vector_by v (v == 0) (v == 6) (v == 13) refl refl refl some
 
 -- the event of a fault, by whether the access is forbidden, and whether its cluster is in
-abbrev chosen_event : ℕ → ℕ → Bool → Bool → Event
+abbrev pub chosen_event : ℕ → ℕ → Bool → Bool → Event
 chosen_event count c forbidden inside = if forbidden then Trap count 14 else (if inside then Break count else Miss count c)
 
 -- the turn, with a note of the program

@@ -46,7 +46,7 @@ use Rattle.ak_memory.specs.Granting.{is_walked, NamesPages}
 -- ---- Walks
 
 -- a walk over these entries, by this entry of the page table
-abbrev walk_by : Layout → List Entry → Mapping → ℕ → Kind → Bool
+abbrev pub walk_by : Layout → List Entry → Mapping → ℕ → Kind → Bool
 walk_by layout entries mapping p kind =
     permits layout p kind && (flags_allow mapping.flags kind
     && (is_page_in (held_in (entry_at entries mapping.frame)) p && not (entry_at entries mapping.frame).blocked))
@@ -94,11 +94,13 @@ framed_filled (fill ∷ fills) t f e = by_test (same_access t fill.access) e (fr
 reached_permitted : (layout : Layout) (place : ℕ) (past : History) (t : Access) → reached_since layout place past t ≡ true → permits layout t.page.0 t.kind ≡ true
 reached_permitted layout place [] t h = cc
 reached_permitted layout place (pair ∷ past) t h =
-    by_walk (access_walkable layout (pair ∷ past) t) refl (and_parts (nat_le place (length past + 1)) _ h).1
+    by_walk (access_walkable layout (pair ∷ past) t) refl (reached_permitted layout place past t)
+    (and_parts (nat_le place (length past + 1)) (access_walkable layout (pair ∷ past) t || reached_since layout place past t) h).1
   where
-    by_walk : (b : Bool) → access_walkable layout (pair ∷ past) t ≡ b → (b || reached_since layout place past t) ≡ true → permits layout t.page.0 t.kind ≡ true
-    by_walk true e some = (and_parts (permits layout t.page.0 t.kind) _ e).0
-    by_walk false e some = reached_permitted layout place past t some
+    by_walk : (b : Bool) → access_walkable layout (pair ∷ past) t ≡ b → (reached_since layout place past t ≡ true → permits layout t.page.0 t.kind ≡ true)
+        → (b || reached_since layout place past t) ≡ true → permits layout t.page.0 t.kind ≡ true
+    by_walk true e more some = (and_parts (permits layout t.page.0 t.kind) _ e).0
+    by_walk false e more some = more some
 
 -- ---- What is known
 
