@@ -46,7 +46,7 @@ use Rattle.ak_enclu.specs.Machines.{IsMachine, LeadsToWhere}
 use Rattle.ak_enclu.specs.Passing.{outside_now, ExitsTo}
 use Rattle.ak_enclu.specs.TcsBytes.{saved_of, refuses}
 use Rattle.ak_enclu.specs.declared.cpu.Cpu.{Cpu}
-use Rattle.ak_memory.specs.Granting.{is_granted, walked_of, fill_by}
+use Rattle.ak_memory.specs.Granting.{is_granted, in_use, walked_of, fill_by}
 use Rattle.ak_memory.specs.declared.memory.Memory.{Memory}
 use Rattle.ak_turns.specs.Instructing.{memory_bytes, granted_in, Instructs}
 use Rattle.ak_turns.specs.Running.{IsRunning, Runs, TurnsTo, event_of, fault_event}
@@ -69,6 +69,13 @@ vector_by v false false false e d f some = absurd (cc)
 
 vector_fits : (v : ℕ) → IsTrue (is_vector v) → (v ≢ 14) × (v < 256)
 vector_fits v some = vector_by v (v == 0) (v == 6) (v == 13) refl refl refl some
+
+-- what is cached after a turn whose memory used its translations
+pub cached_after : (mid new : Memory) → mid.uses_cache ≡ true
+    → ((fills : List Fill) → HoldsFills mid.tlb fills → HoldsFills new.tlb (map (fill_by mid.table) (walked_of (in_use mid.uses_cache mid.tlb) (granted_in mid)) ++ fills))
+    → (fills : List Fill) → HoldsFills mid.tlb fills → HoldsFills new.tlb (map (fill_by mid.table) (walked_of mid.tlb (granted_in mid)) ++ fills)
+cached_after mid new uses holds fills held =
+    subst (λ (b : Bool). HoldsFills new.tlb (map (fill_by mid.table) (walked_of (in_use b mid.tlb) (granted_in mid)) ++ fills)) uses (holds fills held)
 
 -- the event of a fault, by whether the access is forbidden, and whether its cluster is in
 abbrev pub chosen_event : ℕ → ℕ → Bool → Bool → Event
