@@ -1,6 +1,6 @@
 -- Bytes that were put into the frame of a page.
 use Rattle.std.proofs.Math.Path.{fun_ext}
-use Rattle.std.proofs.Common.{◌≡◌, ◌≢◌, ℕ, ◌+◌, ◌≤◌, ◌<◌, Bool, true, false, ◌==◌, List, ◌++◌, length, set, refl, sym, ◌∙◌, ap, subst, inl, inr, arith, length-append, length-drop}
+use Rattle.std.proofs.Common.{◌≡◌, ◌≢◌, ℕ, ◌+◌, ◌≤◌, ◌<◌, true, false, List, length, refl, sym, ◌∙◌, ap, subst, inl, inr, arith, length-append, length-drop}
 use Rattle.std.proofs.lemmas.Bool.Decides.{eqb_tells}
 use Rattle.std.proofs.lemmas.List.{length-take, take-append-le, take_all}
 use Rattle.std.proofs.Math.ListN.{length-set}
@@ -8,7 +8,7 @@ use Rattle.std.specs.Prelude.{Option, Some, None, slice_set, if◌then◌else◌
 use Rattle.ak_core.specs.Mem.{with_page, put_at}
 use Rattle.ak_core.specs.declared.page.Entry.{Entry}
 use Rattle.ak_epcm.specs.Entries.{entry_at, has_page, is_of_page, frame_with, HasDistinctPages}
-use Rattle.ak_epcm.proofs.PageFrames.{frame_with-has, frame_with-holds, has_page_of_page, has_one}
+use Rattle.ak_epcm.proofs.PageFrames.{frame_with-has, frame_with-holds, has_one}
 use Rattle.ak_encls.specs.Enclave.{Enclave, frame_at}
 use Rattle.ak_encls.proofs.SlotChanges.{frame_same, frame_other, lengths_stay}
 use Rattle.ak_memory.specs.Granting.{bytes_found, bytes_of, whole_page}

@@ -1,7 +1,6 @@
 -- What no access changes of a memory, beside the bytes of pages.
 use Rattle.std.specs.Prelude.{◌≡◌, ℕ, Bool, false, List, length, refl}
-use Rattle.std.proofs.Common.{◌∙◌, ap, sym, subst}
-use Rattle.ak_core.specs.declared.page.Entry.{Entry}
+use Rattle.std.proofs.Common.{◌∙◌, ap}
 use Rattle.ak_epcm.specs.Entries.{entry_at, is_of_page}
 use Rattle.ak_pte.specs.declared.table.Pte.{Pte}
 use Rattle.ak_tlb.specs.declared.translation.Translation.{Translation}
