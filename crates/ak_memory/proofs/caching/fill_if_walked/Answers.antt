@@ -9,7 +9,7 @@ use Rattle.ak_memory.proofs.caching.fill_if_walked.Goals as goal
 pub returns-then-spot-clause-holds : goal.returns-then-spot-clause-holds
 returns-then-spot-clause-holds c = λ fills h.
     let spot = c.args.spot.now in
-    subst (λ b. HoldsFills c.fill.new.tlb (if b then spot_fill spot ∷ fills else fills)) (sym c.if-spot.true) (c.fill.ensures.holds fills h)
+    subst (λ b. HoldsFills c.fill.new.self (if b then spot_fill spot ∷ fills else fills)) (sym c.if-spot.true) (c.fill.ensures.holds fills h)
 
 pub returns-then-spot-clause-named : goal.returns-then-spot-clause-named
 returns-then-spot-clause-named c = λ entries named all.
