@@ -153,6 +153,15 @@ eldu 9 4 4 1 4 -> slotempty
 eldu 8 3 3 1 3 -> inuse
 frame 8 -> reg 4 rw
 bytes 8 -> 5
+# a frame that was written out takes another page
+build 5 9 1
+eldu 8 0 0 1 0 -> ok
+eblock 8 -> ok
+etrack -> ok
+ewb 8 1 0 -> handle 5
+eldu 8 4 4 1 4 -> ok
+frame 8 -> reg 4 rw
+bytes 8 -> 5
 # the slots of a VA page are lost with it
 build 1 9 1
 bytes 1 -> mixed
