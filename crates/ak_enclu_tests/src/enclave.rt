@@ -1,6 +1,6 @@
 // An enclave of three program pages in the hands of processor 1. Page 3 is the TCS, pages 4 to 6 are its areas, 7 is STATE, 8 is CODE,
 // and 9 is another TCS; page p is in frame p - 1. Frame 0 has the SECS, frame 1 is a VA page, and frame 9 is free.
-ghost use Rattle.std.specs.Prelude.{◌≡◌, ◌<◌, ◌≤◌, ◌×◌, [], true, length, IfOk, IfSome};
+ghost use Rattle.std.specs.Prelude.{◌≡◌, ◌<◌, ◌≤◌, [], true, length, IfSome};
 ghost use Rattle.ak_epcm.specs.Entries.{entry_at, is_addressed, is_of_page};
 ghost use Rattle.ak_encls.specs.Enclave.{frame_at};
 ghost use Rattle.ak_enclu.specs.Passing.{HasFewSaved};
@@ -69,6 +69,13 @@ impl Parts {
                 flags,
             },
         );
+    }
+
+    /// Unmaps the areas, and STATE after them.
+    pub fn unmap_areas(&mut self) {
+        for p in 4..8u32 {
+            self.map(p, p - 1, UNMAPPED);
+        }
     }
 
     /// The bytes of a frame that is in use.

@@ -1,4 +1,6 @@
 // What entering and leaving leave.
+ghost use Rattle.std.specs.Prelude.{◌<◌};
+
 use crate::enclave::{AREA_FRAME, Parts, TCS_FRAME, built};
 use crate::frames::{Noted, REGS, saved_area, tcs_bytes, unused_area};
 use ak_core::{Answer, Frame, Kind, Mode, Move, PAGE_SIZE, Regs};

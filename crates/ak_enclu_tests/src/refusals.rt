@@ -1,4 +1,6 @@
 // Each answer of EENTER and of ERESUME, where the refusals that would come later hold too, and what makes a walk find no TCS and no area.
+ghost use Rattle.std.specs.Prelude.{◌<◌};
+
 use crate::enclave::{AREA_FRAME, MAPPED, Parts, TCS_FRAME, UNMAPPED, built, built_of};
 use crate::frames::{REGS, tcs_bytes, unused_area};
 use ak_core::{Answer, Flags, Frame, Move, PageType, Perm};
@@ -16,9 +18,7 @@ fn parts_with(alloc: Global, words: &str, saved: u8) -> Result<Parts, Fail> {
         parts.map(3, TCS_FRAME, UNMAPPED);
     }
     if words.contains("ssa") {
-        for p in 4..8u32 {
-            parts.map(p, p - 1, UNMAPPED);
-        }
+        parts.unmap_areas();
     }
     parts.cpu.regs = REGS;
     parts.cache();
