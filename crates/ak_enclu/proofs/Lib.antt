@@ -1,4 +1,4 @@
-mod Fields
+pub mod Fields
 mod Rows
 mod Changes
 mod Entered

@@ -1,6 +1,7 @@
 // A logical processor.
 ghost use Rattle.std.specs.Prelude.{◌≡◌, [], true, false};
 ghost use Rattle.ak_core.specs.declared.registers.Regs.{Regs as TheRegs};
+ghost use Rattle.ak_model.specs.Flat.FlatRuns.{zeroed};
 ghost use Rattle.ak_enclu.specs.Processors.{entry_regs_at};
 
 use ak_core::{Frame, Lp, Mode, Regs};
@@ -24,10 +25,13 @@ pub struct Cpu {
 }
 
 impl Cpu {
-    /// A processor that is outside. It holds nothing, and has nothing cached.
+    /// A processor that is outside. It holds nothing, its registers are clear, and it has nothing cached.
     pub fn outside(lp: Lp) -> Cpu
         ensures lp { result.lp ≡ lp }
+        ensures registers { result.regs ≡ zeroed 0 }
         ensures outside { result.inside ≡ false }
+        ensures tcs { result.tcs.0 ≡ 0 }
+        ensures ssa { result.ssa.0 ≡ 0 }
         ensures empty { result.tlb ≡ [] }
     {
         Cpu {
