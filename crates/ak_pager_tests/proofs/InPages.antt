@@ -1,11 +1,11 @@
 -- The memory of pages that the tests use.
-use Rattle.std.proofs.Common.{◌≡◌, ℕ, ◌<◌, List, [], ◌∷◌, refl, ap, ◌∙◌, arith, length}
+use Rattle.std.proofs.Common.{◌≡◌, ℕ, zero, suc, ◌<◌, List, [], ◌∷◌, ◌++◌, refl, ap, ◌∙◌, arith, length}
 use Rattle.std.proofs.Math.Path.{fun_ext}
 use Rattle.std.specs.Prelude.{Bool, true, false, ◌&&◌, ◌||◌, ◌==◌, nat_lt, slice_set, slice_index_or, if◌then◌else◌}
 use Rattle.std.proofs.lemmas.Bool.Decides.{nat_tests}
 use Rattle.std.proofs.lemmas.List.{get_or-set_same, get_or-set_other}
 use Rattle.ak_core.specs.Mem.{Access, is_touched, is_writable, is_write, with_page}
-use Rattle.ak_pager_tests.specs.TestPages.{IsWhole, are_inside, page_of, blank_page}
+use Rattle.ak_pager_tests.specs.TestPages.{IsWhole, are_inside, page_of, blank_page, length-blank_page}
 
 both : (a b : Bool) → a && b ≡ true → (a ≡ true) × (b ≡ true)
 both true b h = (refl, h)
@@ -53,3 +53,17 @@ whole-by false new old x y = y
 pub whole-set : (pages : List (List ℕ)) (p : ℕ) (new : List ℕ) → p < length pages → length new ≡ 4096 → IsWhole pages → IsWhole (slice_set pages p new)
 whole-set pages p new below size whole q =
     ap length (set-at pages p q new (q == p) below refl) ∙ whole-by (q == p) new (page_of pages q) size (whole q)
+
+-- none are whole
+pub whole-none : (pages : List (List ℕ)) → pages ≡ [] → IsWhole pages
+whole-none pages e p = ap (λ (xs : List (List ℕ)). length (page_of xs p)) e ∙ length-blank_page
+
+whole-on : (pages : List (List ℕ)) (new : List ℕ) → length new ≡ 4096 → IsWhole pages → (p : ℕ) → length (page_of (pages ++ new ∷ []) p) ≡ 4096
+whole-on [] new size whole zero = size
+whole-on [] new size whole (suc p) = length-blank_page
+whole-on (page ∷ pages) new size whole zero = whole 0
+whole-on (page ∷ pages) new size whole (suc p) = whole-on pages new size (λ q. whole (suc q)) p
+
+-- one more that is whole
+pub whole-push : (pages : List (List ℕ)) (new : List ℕ) (all : List (List ℕ)) → all ≡ pages ++ new ∷ [] → length new ≡ 4096 → IsWhole pages → IsWhole all
+whole-push pages new all e size whole p = ap (λ (xs : List (List ℕ)). length (page_of xs p)) e ∙ whole-on pages new size whole p

@@ -1,5 +1,5 @@
 -- A control state, a context and a flat state for which a step is defined.
-use Rattle.std.proofs.Common.{◌≡◌, ℕ, zero, suc, ◌+◌, ◌*◌, ◌-◌, ◌/◌, ◌<◌, ◌≤◌, ◌^◌, Bool, true, false, List, [], ◌∷◌, length, refl, ap, sym, subst, ◌∙◌, inl, inr, arith}
+use Rattle.std.proofs.Common.{◌≡◌, ℕ, zero, suc, ◌+◌, ◌*◌, ◌-◌, ◌/◌, ◌<◌, ◌≤◌, ◌^◌, Bool, true, false, List, [], ◌∷◌, ◌++◌, length, refl, ap, sym, subst, ◌∙◌, inl, inr, arith}
 use Rattle.std.specs.Prelude.{Option, Some, None, slice_get, slice_index, take, drop, if◌then◌else◌, ◌⊎◌, IsTrue}
 use Rattle.std.specs.Bool.{then_some}
 use Rattle.std.proofs.lemmas.Bool.{cases_lt}
@@ -10,7 +10,7 @@ use Rattle.ak_core.specs.declared.page.Kind.{Kind}
 use Rattle.ak_core.specs.declared.registers.Mode.{Mode}
 use Rattle.ak_core.specs.declared.registers.Regs.{Regs}
 use Rattle.ak_model.specs.Clusters.Queue.{is_in}
-use Rattle.ak_model.specs.Control.ControlState.{Phase, Context, Program, Enter, Probe, Finish, Guard, Leave, Reason, Interrupted, Raised, Denied, Missed, Broke, Faulted, Saved, Control, is_asked}
+use Rattle.ak_model.specs.Control.ControlState.{Phase, New, Running, Calling, Asked, Ended, Trapped, Dead, Context, Program, Enter, Probe, Finish, Guard, Leave, Reason, Interrupted, Raised, Denied, Missed, Broke, Faulted, Saved, Control, is_asked}
 use Rattle.ak_model.specs.Control.RuntimeTurn.{asked_pages}
 use Rattle.ak_model.specs.Flat.FlatRuns.{Flat, is_forbidden}
 use Rattle.ak_model.specs.Flat.Instructions.{number_at, reg_of, rax, rcx, rsi, rdi}
@@ -21,7 +21,7 @@ use Rattle.ak_ssa.specs.declared.cause.Why.TheVariants.{Interrupt, Vector, PageF
 use Rattle.ak_ssa.specs.ReadFrames.{cause_of}
 use Rattle.ak_ssa.specs.SavedFrames.{SavedCause, NoCause, ByVector, ByPage, saved_bytes}
 use Rattle.ak_ssa.specs.SavedRegisters.{AreWords, AreRegs}
-use Rattle.ak_pager.specs.Contexts.{Gives, IsByPage, IsNoted, SameButRip, entry_regs, reason_for, step_address}
+use Rattle.ak_pager.specs.Contexts.{Gives, IsAtStep, IsByPage, IsNoted, SameButRip, entry_regs, reason_for, step_address}
 use Rattle.ak_pager.specs.Effects.{SomeStep}
 use Rattle.ak_pager.specs.RuntimePages.{Copies, OfCopy, IsArea, IsState, KeepsFrame, KeepsProgram}
 use Rattle.ak_pager.specs.StepsTo.{IsAskedFor, IsReason, IsSmall, memory_of, MayStep}
@@ -33,6 +33,14 @@ use Rattle.ak_pager_tests.specs.DefinedSteps.{HasSavedContext, HaveSavedContexts
 pub says_clusters : (bytes queue : List ℕ) → ((k : ℕ) → k < length queue → slice_index queue k ≡ number_at bytes (1024 + 2 * k) 2) →
     (i c : ℕ) → slice_get queue i ≡ Some c → number_at bytes (1024 + 2 * i) 2 ≡ c
 says_clusters bytes queue read i c e = sym (read i (slice_get_within queue i c e)) ∙ get_or_from_slice_get queue i c 0 e
+
+-- one more that is read
+pub reads-push : (f : ℕ → ℕ) (xs : List ℕ) (x : ℕ) → ((k : ℕ) → k < length xs → slice_index xs k ≡ f k) → x ≡ f (length xs) →
+    (k : ℕ) → k < length (xs ++ x ∷ []) → slice_index (xs ++ x ∷ []) k ≡ f k
+reads-push f [] x h e zero low = e
+reads-push f [] x h e (suc k) low = absurd (omega arith)
+reads-push f (y ∷ xs) x h e zero low = h 0 (omega arith)
+reads-push f (y ∷ xs) x h e (suc k) low = reads-push (λ n. f (suc n)) xs x (λ n l. h (suc n) (omega arith)) e k (omega arith)
 
 -- all of it together
 pub says_state : (layout : Layout) (phase : Phase) (program : Regs) (queue bytes : List ℕ) → SaysPhase phase bytes → SaysQueue layout queue bytes →
@@ -65,6 +73,16 @@ kept_frame layout program why bytes stored words cause = record {
   words = words;
   registers = refl;
 }
+
+-- where the phase keeps one
+pub keeps_by : (phase : Phase) (layout : Layout) (flat : Flat) (bytes : List ℕ) → KeepsProgram layout flat bytes → KeepsFrame phase layout flat bytes
+keeps_by New layout flat bytes h = tt
+keeps_by Running layout flat bytes h = tt
+keeps_by Calling layout flat bytes h = h
+keeps_by (Asked c) layout flat bytes h = h
+keeps_by (Ended s) layout flat bytes h = tt
+keeps_by (Trapped v) layout flat bytes h = tt
+keeps_by Dead layout flat bytes h = tt
 
 -- ---- Saved contexts
 
@@ -182,7 +200,7 @@ of_copy true bytes P h = h
 of_copy false bytes P h = tt
 
 module _ (layout : Layout) (phase : Phase) (queue : List ℕ) (flat : Flat) (holds : ℕ → Bool) (bytes : ℕ → List ℕ) where
-  pub no_context : HaveSavedContexts layout phase queue flat (memory_of holds bytes) 0
+  abbrev pub no_context : HaveSavedContexts layout phase queue flat (memory_of holds bytes) 0
   no_context = record { stack = []; count_is = refl; reasons = tt; areas = tt }
 
   pub one_context : HasSavedContext layout phase queue flat true (bytes (ssa_page layout 0)) → HaveSavedContexts layout phase queue flat (memory_of holds bytes) 1
@@ -204,6 +222,17 @@ module _ (layout : Layout) (phase : Phase) (queue : List ℕ) (flat : Flat) (hol
       (of_copy (holds (ssa_page layout 0)) (bytes (ssa_page layout 0)) (IsArea layout phase queue flat h.saved) h.area, tt),
     );
   }
+
+  -- so many
+  abbrev Counted : ℕ → Type 0
+  Counted n = HaveSavedContexts layout phase queue flat (memory_of holds bytes) n × (n ≤ 2)
+
+  pub one_counted : (n : ℕ) → n ≡ 1 → HasSavedContext layout phase queue flat true (bytes (ssa_page layout 0)) → Counted n
+  one_counted n e h = subst Counted (sym e) (one_context h, omega arith)
+
+  pub two_counted : (n : ℕ) → n ≡ 2 → HasSavedContext layout phase queue flat true (bytes (ssa_page layout 0)) →
+      HasSavedContext layout phase queue flat false (bytes (ssa_page layout 1)) → Counted n
+  two_counted n e h newest = subst Counted (sym e) (two_contexts h newest, omega arith)
 
 -- ---- Steps
 
@@ -246,20 +275,20 @@ module _ (layout : Layout) (phase : Phase) (program regs : Regs) (holds : ℕ �
       some (Enter (reg_of regs rax) (reg_of regs rdi)) (reg_of regs rax) saved (entry_row saved.stack (reg_of regs rax) (reg_of regs rdi) saved.count_is opened) (omega arith) is
 
   -- the guard
-  pub guard_step : regs.rip ≡ step_address layout 16 → guards phase ≡ true → SomeStep layout regs holds bytes
-  guard_step at row = some Guard 0 (no_context layout phase says.queue (program_at program) holds bytes) row tt (record { mode = mode; rip = at })
+  pub guard_step : IsAtStep layout regs 16 → guards phase ≡ true → SomeStep layout regs holds bytes
+  guard_step at row = some Guard 0 (no_context layout phase says.queue (program_at program) holds bytes) row tt at
 
   -- a leave step
-  pub leave_step : regs.rip ≡ step_address layout 32 → SameButRip regs program → SomeStep layout regs holds bytes
+  pub leave_step : IsAtStep layout regs 32 → SameButRip regs program → SomeStep layout regs holds bytes
   leave_step at same =
       some (Leave (reg_of regs rdi) (reg_of regs rsi)) 0 (no_context layout phase says.queue (program_at program) holds bytes) refl tt
-      (record { mode = mode; rip = at }, same, refl, refl)
+      (at, same, refl, refl)
 
   -- a probe, or the end of the probes
-  pub probe_step : HaveSavedContexts layout phase says.queue (program_at program) (memory_of holds bytes) 1 → regs.rip ≡ step_address layout 48 →
+  pub probe_step : HaveSavedContexts layout phase says.queue (program_at program) (memory_of holds bytes) 1 → IsAtStep layout regs 48 →
       is_asked phase ≡ true → reg_of regs rcx ≤ length (asked_pages layout phase) → SomeStep layout regs holds bytes
   probe_step saved at asked few = by (cases_lt (reg_of regs rcx) (length (asked_pages layout phase)))
     where
       by : (reg_of regs rcx < length (asked_pages layout phase)) ⊎ (length (asked_pages layout phase) ≤ reg_of regs rcx) → SomeStep layout regs holds bytes
-      by (inl low) = some (Probe (reg_of regs rcx)) 1 saved (saved.count_is, low) tt (record { mode = mode; rip = at }, refl)
-      by (inr past) = some Finish 1 saved (saved.count_is, asked) tt (record { mode = mode; rip = at }, (let e : reg_of regs rcx ≡ length (asked_pages layout phase) = omega arith in e))
+      by (inl low) = some (Probe (reg_of regs rcx)) 1 saved (saved.count_is, low) tt (at, refl)
+      by (inr past) = some Finish 1 saved (saved.count_is, asked) tt (at, (let e : reg_of regs rcx ≡ length (asked_pages layout phase) = omega arith in e))

@@ -1,5 +1,6 @@
 // Whether a step of the runtime is defined for registers and a memory: the table has a row for it.
 ghost use Rattle.std.specs.Prelude.{◌≡◌, ℕ, ◌<◌, ◌≤◌, List, true, length, IfSome};
+ghost use Rattle.ak_core.specs.Layout.{size_of};
 ghost use Rattle.ak_model.specs.Control.ControlState.{Phase as ThePhase, is_asked};
 ghost use Rattle.ak_model.specs.Control.RuntimeTurn.{asked_pages};
 ghost use Rattle.ak_model.specs.Flat.Instructions.{reg_of, rax, rcx, rdi};
@@ -14,7 +15,7 @@ ghost use Rattle.ak_pager_tests.specs.TestPages.{is_held, page_of};
 use crate::Phase;
 use crate::fields::{has, phase_in, queue_in};
 use crate::memory::Pages;
-use crate::saved::{has_saved_context, keeps_frame, step_address};
+use crate::saved::{has_saved_context, is_at, keeps_frame, step_address};
 use ak_core::{Layout, Mode, PAGE_SIZE, Regs};
 use ak_pager::{RtTurn, runtime_turn};
 
@@ -101,16 +102,23 @@ fn guards(phase: Phase) -> bool
     matches!(phase, Phase::Asked(_) | Phase::Trapped(_) | Phase::Dead)
 }
 
-/// How many pages a cluster has.
-fn size_of(layout: &Layout, c: u64) -> u64
-    ensures { result ≡ length (pages_of layout.now c) }
+/// How many pages have this cluster.
+fn count_of(layout: &Layout, c: u64) -> u64
+    ensures { result ≡ size_of layout.now.cluster_of c }
 {
-    let _valid = layout.base();
     layout
         .cluster_of()
         .iter()
         .filter(|x| u64::from(**x) == c)
         .count() as u64
+}
+
+/// How many pages a cluster has.
+fn size_of(layout: &Layout, c: u64) -> u64
+    ensures { result ≡ length (pages_of layout.now c) }
+{
+    let _valid = layout.base();
+    count_of(layout, c)
 }
 
 /// It is an entering that has a row.
@@ -152,22 +160,20 @@ pub fn is_defined(layout: &Layout, program: &Regs, regs: &Regs, mem: &Pages) -> 
     let Some(phase) = state_in(layout, program, state) else {
         return false;
     };
-    if regs.mode == Mode::Program {
-        return false;
-    }
-    if regs.rip == step_address(layout, 0) {
+    if is_at(layout, regs, 0) {
         return is_entry(layout, regs, phase)
             && have_saved_contexts(layout, program, mem, regs.gpr[0]);
     }
-    if regs.rip == step_address(layout, 16) {
+    if is_at(layout, regs, 16) {
         return guards(phase);
     }
-    if regs.rip == step_address(layout, 32) {
+    if is_at(layout, regs, 32) {
         return is_same_but_rip(regs, program);
     }
-    regs.rip == step_address(layout, 48)
-        && is_probe(layout, regs, phase)
-        && have_saved_contexts(layout, program, mem, 1)
+    if is_at(layout, regs, 48) {
+        return is_probe(layout, regs, phase) && have_saved_contexts(layout, program, mem, 1);
+    }
+    false
 }
 
 /// Does the step, if it is defined.

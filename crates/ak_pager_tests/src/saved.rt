@@ -4,7 +4,7 @@ ghost use Rattle.ak_model.specs.Control.ControlState.{Phase as ThePhase};
 ghost use Rattle.ak_core.specs.declared.registers.Mode.{Mode as TheMode};
 ghost use Rattle.ak_ssa.specs.SavedFrames.{saved_bytes};
 ghost use Rattle.ak_ssa.specs.SavedRegisters.{AreRegs};
-ghost use Rattle.ak_pager.specs.Contexts.{step_address};
+ghost use Rattle.ak_pager.specs.Contexts.{IsAtStep, step_address};
 ghost use Rattle.ak_model.specs.Paging.Pages.{all_pages};
 ghost use Rattle.ak_pager.specs.RuntimePages.{KeepsFrame};
 ghost use Rattle.ak_pager_tests.specs.DefinedSteps.{HasSavedContext, IsCause, IsProgramWhy, IsRuntimeWhy, phase_of, program_at};
@@ -66,11 +66,29 @@ pub fn step_address(layout: &Layout, offset: u64) -> u64
     layout.base() + 4096 * code + offset
 }
 
+/// What was noted may be of the program.
+fn is_program_why(why: Why) -> bool
+    ensures { result ≡ true → IsProgramWhy why }
+{
+    match why {
+        Why::Vector(vector) => vector != 14,
+        Why::Interrupt | Why::PageFault(..) => true,
+    }
+}
+
+/// The step so far into CODE comes next.
+pub fn is_at(layout: &Layout, regs: &Regs, offset: u64) -> bool
+    requires { offset < 4096 }
+    ensures { result ≡ true → IsAtStep layout.now regs.now offset }
+{
+    regs.mode == Mode::Runtime && regs.rip == step_address(layout, offset)
+}
+
 /// They are the program's registers, and what was noted may be of the program.
 fn is_program(program: &Regs, regs: &Regs, why: Why) -> bool
     ensures { result ≡ true → (regs.now ≡ program.now) × IsProgramWhy why }
 {
-    *regs == *program && !matches!(why, Why::Vector(14))
+    *regs == *program && is_program_why(why)
 }
 
 /// The runtime's guard or a probe comes next, and what was noted may be of the runtime.
