@@ -25,7 +25,7 @@ use Rattle.ak_pager.specs.Contexts.{Gives, IsAtStep, IsByPage, IsNoted, SameButR
 use Rattle.ak_pager.specs.Effects.{SomeStep}
 use Rattle.ak_pager.specs.RuntimePages.{Copies, OfCopy, IsArea, IsState, KeepsFrame, KeepsProgram}
 use Rattle.ak_pager.specs.StepsTo.{IsAskedFor, IsReason, IsSmall, memory_of, MayStep}
-use Rattle.ak_pager_tests.specs.DefinedSteps.{HasSavedContext, HaveSavedContexts, IsCause, IsProgramWhy, IsRuntimeWhy, SaysPhase, SaysQueue, SaysState, program_at}
+use Rattle.ak_pager_tests.specs.DefinedSteps.{AreSame, HasSavedContext, HaveSavedContexts, IsCause, IsProgramWhy, IsRuntimeWhy, SaysPhase, SaysQueue, SaysState, program_at}
 
 -- ---- STATE
 
@@ -58,6 +58,22 @@ says_state layout phase program queue bytes phase_is queue_is asked kept = recor
 pub words_from : (xs : List ℕ) → ((k : ℕ) → k < length xs → slice_index xs k < 2 ^ 64) → AreWords xs
 words_from [] h = tt
 words_from (x ∷ xs) h = (h 0 (omega arith), words_from xs (λ k low. h (suc k) (omega arith)))
+
+-- registers from their parts
+abbrev made : List ℕ → ℕ → Bool → Bool → Bool → Bool → Mode → Regs
+made gpr rip cf zf sf of mode = record { gpr = gpr; rip = rip; cf = cf; zf = zf; sf = sf; of = of; mode = mode }
+
+-- those that are equal one by one
+pub same_regs : (regs other : Regs) → AreSame regs other → regs ≡ other
+same_regs regs other h =
+    let gpr = h.gpr in
+    let rip = h.rip in
+    let cf = h.cf in
+    let zf = h.zf in
+    let sf = h.sf in
+    let of = h.of in
+    let mode = h.mode in
+    let e : made regs.gpr regs.rip regs.cf regs.zf regs.sf regs.of regs.mode ≡ made other.gpr other.rip other.cf other.zf other.sf other.of other.mode = cc in e
 
 -- a page fault at the address of a page of the enclave
 pub page_cause : (layout : Layout) (address : ℕ) (kind : Kind) → layout.base + 4096 * ((address - layout.base) / 4096) ≡ address → (address - layout.base) / 4096 < all_pages layout →

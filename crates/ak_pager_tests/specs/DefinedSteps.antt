@@ -53,6 +53,16 @@ pub record IsCause (layout : Layout) (why : Why) : Type 0 where
   pub is : why_of layout (cause_of layout why) ≡ why
   pub fits : CauseFits layout (cause_of layout why)
 
+-- registers that are equal one by one
+pub record AreSame (regs other : Regs) : Type 0 where
+  pub gpr : regs.gpr ≡ other.gpr
+  pub rip : regs.rip ≡ other.rip
+  pub cf : regs.cf ≡ other.cf
+  pub zf : regs.zf ≡ other.zf
+  pub sf : regs.sf ≡ other.sf
+  pub of : regs.of ≡ other.of
+  pub mode : regs.mode ≡ other.mode
+
 -- of the program a vector that is no page fault's
 abbrev pub IsProgramWhy : Why → Type 0
 IsProgramWhy Interrupt = Unit {0}

@@ -7,7 +7,7 @@ ghost use Rattle.ak_ssa.specs.SavedRegisters.{AreRegs};
 ghost use Rattle.ak_pager.specs.Contexts.{IsAtStep, step_address};
 ghost use Rattle.ak_model.specs.Paging.Pages.{all_pages};
 ghost use Rattle.ak_pager.specs.RuntimePages.{KeepsFrame};
-ghost use Rattle.ak_pager_tests.specs.DefinedSteps.{HasSavedContext, IsCause, IsProgramWhy, IsRuntimeWhy, phase_of, program_at};
+ghost use Rattle.ak_pager_tests.specs.DefinedSteps.{AreSame, HasSavedContext, IsCause, IsProgramWhy, IsRuntimeWhy, phase_of, program_at};
 
 use crate::Phase;
 use ak_core::{Layout, Mode, PAGE_SIZE, Regs};
@@ -84,11 +84,17 @@ pub fn is_at(layout: &Layout, regs: &Regs, offset: u64) -> bool
     regs.mode == Mode::Runtime && regs.rip == step_address(layout, offset)
 }
 
-/// They are the program's registers, and what was noted may be of the program.
-fn is_program(program: &Regs, regs: &Regs, why: Why) -> bool
-    ensures { result ≡ true → (regs.now ≡ program.now) × IsProgramWhy why }
+/// They are the program's registers.
+fn is_program(program: &Regs, regs: &Regs) -> bool
+    ensures { result ≡ true → AreSame regs.now program.now }
 {
-    *regs == *program && is_program_why(why)
+    regs.gpr == program.gpr
+        && regs.rip == program.rip
+        && regs.cf == program.cf
+        && regs.zf == program.zf
+        && regs.sf == program.sf
+        && regs.of == program.of
+        && regs.mode == program.mode
 }
 
 /// The runtime's guard or a probe comes next, and what was noted may be of the runtime.
@@ -114,8 +120,8 @@ pub fn has_saved_context(layout: &Layout, program: &Regs, area: &[u8], is_oldest
     if !is_frame(bytes, &regs, why) || !is_cause(layout, why) {
         return false;
     }
-    if is_program(program, &regs, why) {
-        return is_oldest;
+    if is_program(program, &regs) {
+        return is_oldest && is_program_why(why);
     }
     is_runtime(layout, &regs, why)
 }
