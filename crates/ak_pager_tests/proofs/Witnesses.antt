@@ -1,6 +1,6 @@
 -- A control state, a context and a flat state for which a step is defined.
 use Rattle.std.proofs.Common.{◌≡◌, ℕ, zero, suc, ◌+◌, ◌*◌, ◌-◌, ◌/◌, ◌<◌, ◌≤◌, ◌^◌, Bool, true, false, List, [], ◌∷◌, ◌++◌, length, refl, ap, sym, subst, ◌∙◌, inl, inr, arith}
-use Rattle.std.specs.Prelude.{Option, Some, None, slice_get, slice_index, take, drop, if◌then◌else◌, ◌⊎◌, IsTrue}
+use Rattle.std.specs.Prelude.{Some, None, slice_get, slice_index, take, drop, if◌then◌else◌, ◌⊎◌}
 use Rattle.std.specs.Bool.{then_some}
 use Rattle.std.proofs.lemmas.Bool.{cases_lt}
 use Rattle.std.proofs.lemmas.Option.{slice_get_within, get_or_from_slice_get}
@@ -19,12 +19,12 @@ use Rattle.ak_model.specs.Paging.Pages.{all_pages, cluster_at, ssa_page, state_p
 use Rattle.ak_ssa.specs.declared.cause.Why.{Why}
 use Rattle.ak_ssa.specs.declared.cause.Why.TheVariants.{Interrupt, Vector, PageFault}
 use Rattle.ak_ssa.specs.ReadFrames.{cause_of}
-use Rattle.ak_ssa.specs.SavedFrames.{SavedCause, NoCause, ByVector, ByPage, saved_bytes}
+use Rattle.ak_ssa.specs.SavedFrames.{ByPage, saved_bytes}
 use Rattle.ak_ssa.specs.SavedRegisters.{AreWords, AreRegs}
-use Rattle.ak_pager.specs.Contexts.{Gives, IsAtStep, IsByPage, IsNoted, SameButRip, entry_regs, reason_for, step_address}
+use Rattle.ak_pager.specs.Contexts.{Gives, IsAtStep, IsNoted, SameButRip, entry_regs, reason_for, step_address}
 use Rattle.ak_pager.specs.Effects.{SomeStep}
-use Rattle.ak_pager.specs.RuntimePages.{Copies, OfCopy, IsArea, IsState, KeepsFrame, KeepsProgram}
-use Rattle.ak_pager.specs.StepsTo.{IsAskedFor, IsReason, IsSmall, memory_of, MayStep}
+use Rattle.ak_pager.specs.RuntimePages.{OfCopy, IsArea, IsState, KeepsFrame, KeepsProgram}
+use Rattle.ak_pager.specs.StepsTo.{IsAskedFor, IsReason, IsSmall, memory_of}
 use Rattle.ak_pager_tests.specs.DefinedSteps.{AreSame, HasSavedContext, HaveSavedContexts, IsCause, IsProgramWhy, IsRuntimeWhy, SaysPhase, SaysQueue, SaysState, program_at}
 
 -- ---- STATE

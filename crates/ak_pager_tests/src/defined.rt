@@ -131,7 +131,8 @@ fn is_entry(layout: &Layout, regs: &Regs, phase: Phase) -> bool
 
 /// A page of the cluster that is asked for is probed, or there are no more.
 fn is_probe(layout: &Layout, regs: &Regs, phase: Phase) -> bool
-    ensures { result ≡ true → (is_asked (phase_of phase) ≡ true) × (reg_of regs.now rcx ≤ length (asked_pages layout.now (phase_of phase))) }
+    ensures { result ≡ true → (is_asked (phase_of phase) ≡ true)
+        × (reg_of regs.now rcx ≤ length (asked_pages layout.now (phase_of phase))) }
 {
     match phase {
         Phase::Asked(c) => regs.gpr[1] <= size_of(layout, c),

@@ -39,7 +39,8 @@ fn is_frame(bytes: &[u8], regs: &Regs, why: Why) -> bool
 
 /// A page of the enclave has this address.
 fn is_page_address(layout: &Layout, address: u64) -> bool
-    ensures { result ≡ true → (layout.now.base + 4096 * ((address - layout.now.base) / 4096) ≡ address) × ((address - layout.now.base) / 4096 < all_pages layout.now) }
+    ensures { result ≡ true → (layout.now.base + 4096 * ((address - layout.now.base) / 4096) ≡ address)
+        × ((address - layout.now.base) / 4096 < all_pages layout.now) }
 {
     let pages = layout.perms().len() as u64 + 6;
     address >= layout.base()

@@ -160,6 +160,7 @@ fn change(
     }
 }
 
+/// The row that a line says.
 fn read_row(rt: &HostRuntime, line: &'static str) -> Result<Row, Fail> {
     let mut columns = line.split('|');
     let regs = at_step(CODE, columns.next().unwrap_or(""))?;
