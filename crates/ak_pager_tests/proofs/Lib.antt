@@ -1,0 +1,3 @@
+mod InPages
+mod ManyPages
+mod Witnesses

@@ -1,0 +1,2 @@
+pub mod TestPages
+pub mod DefinedSteps
