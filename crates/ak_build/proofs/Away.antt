@@ -7,14 +7,14 @@ use Rattle.std.specs.Option.{option_map}
 use Rattle.ak_core.specs.declared.page.Entry.{Entry}
 use Rattle.ak_core.specs.declared.page.Perm.{Perm}
 use Rattle.ak_core.specs.declared.page.PageType.TheVariants.{Tcs, Reg}
-use Rattle.ak_epcm.specs.Entries.{free_entry, entry_at, has_page, HasNoFrame}
-use Rattle.ak_sealed.specs.SealedPages.{SealedPage, sealed_page_of, sealed_page_at}
+use Rattle.ak_epcm.specs.Entries.{free_entry, has_page, HasNoFrame}
+use Rattle.ak_sealed.specs.SealedPages.{SealedPage, sealed_page_of}
 use Rattle.ak_image.specs.Built.{pages_of, page_bytes}
 use Rattle.ak_image.specs.Image.{Image}
 use Rattle.ak_encls.specs.Building.{secs_entry, va_entry, added_entry, IsNotSealed}
 use Rattle.ak_encls.specs.Enclave.{Enclave}
-use Rattle.ak_build.specs.Adding.{entry_so_far, program_sealed, sealed_so_far, HasAdded}
-use Rattle.ak_build.specs.Runtime.{runtime_type, runtime_perm, runtime_entry}
+use Rattle.ak_build.specs.Adding.{entry_so_far, sealed_so_far, HasAdded}
+use Rattle.ak_build.specs.Runtime.{runtime_perm, runtime_entry}
 
 -- ---- Frames
 

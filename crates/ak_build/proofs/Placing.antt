@@ -38,7 +38,7 @@ module _ (image : Image) (frames lps i : ℕ) (bytes : List ℕ) (old new : Encl
   module _ (entries : new.entries ≡ set old.entries (2 + i) (runtime_entry (pages_of image) i)) (frames_are : new.frames ≡ set old.frames (2 + i) bytes)
       (in_frames : 2 + i < length old.frames)
       (measure : (absorbed : List ℕ) → HasAbsorbed old.measure absorbed
-          → HasAbsorbed new.measure (absorbed ++ page_blocks (4096 * (pages_of image + i)) (secinfo (runtime_type i) (runtime_perm i)) bytes))
+      → HasAbsorbed new.measure (absorbed ++ page_blocks (4096 * (pages_of image + i)) (secinfo (runtime_type i) (runtime_perm i)) bytes))
       (rest : new ≡ record old { entries = new.entries; frames = new.frames; measure = new.measure }) where
     not_va : 1 ≢ 2 + i
     not_va e = omega arith

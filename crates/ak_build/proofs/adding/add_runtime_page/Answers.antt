@@ -1,8 +1,8 @@
-use Rattle.std.proofs.Common.{◌≡◌, ℕ, ◌+◌, ◌<◌, ◌≤◌, length, ap, ◌∙◌, arith}
+use Rattle.std.proofs.Common.{◌≡◌, ℕ, ◌+◌, length, ap, ◌∙◌, arith}
 use Rattle.std.proofs.lemmas.List.{length-replicate}
 use Rattle.ak_image.specs.Built.{page_bytes}
 use Rattle.ak_build.proofs.Away.{no_runtime_frame, not_sealed}
-use Rattle.ak_build.proofs.Placing.{addressed, free, placed_as}
+use Rattle.ak_build.proofs.Placing.{placed_as}
 use Rattle.ak_build.proofs.adding.add_runtime_page.Goals as goal
 
 pub add_page-requires-clause-no_frame : goal.add_page-requires-clause-no_frame

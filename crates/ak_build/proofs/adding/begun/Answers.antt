@@ -1,4 +1,4 @@
-use Rattle.std.proofs.Common.{◌≡◌, ℕ, ◌<◌, ◌≤◌, List, [], length, ap, sym, ◌∙◌, subst, arith}
+use Rattle.std.proofs.Common.{◌≡◌, ℕ, [], length, ap, sym, ◌∙◌, subst, arith}
 use Rattle.std.specs.Prelude.{max}
 use Rattle.ak_core.specs.Layout.{enclave_size}
 use Rattle.ak_measure.specs.Absorbed.{HasAbsorbed}
@@ -17,8 +17,8 @@ no_less a n m none same = ap (λ (k : ℕ). max k n) none ∙ first n ∙ same
     first : (n : ℕ) → max 0 n ≡ n
     first n = omega arith
 
-pub returns : goal.returns
-returns c =
+pub returns-clause-begun : goal.returns-clause-begun
+returns-clause-begun c =
     let image = c.args.image.now in
     let start = c.in_ok-encls.ensures in
     let after = c.add_va.ensures in
