@@ -7,14 +7,14 @@ use Rattle.std.specs.Option.{option_map}
 use Rattle.ak_core.specs.declared.page.Entry.{Entry}
 use Rattle.ak_core.specs.declared.page.Perm.{Perm}
 use Rattle.ak_core.specs.declared.page.PageType.TheVariants.{Tcs, Reg}
-use Rattle.ak_epcm.specs.Entries.{free_entry, entry_at, has_page, HasNoFrame}
-use Rattle.ak_sealed.specs.SealedPages.{SealedPage, sealed_page_of, sealed_page_at}
+use Rattle.ak_epcm.specs.Entries.{free_entry, has_page, HasNoFrame}
+use Rattle.ak_sealed.specs.SealedPages.{SealedPage, sealed_page_of}
 use Rattle.ak_image.specs.Built.{pages_of, page_bytes}
 use Rattle.ak_image.specs.Image.{Image}
 use Rattle.ak_encls.specs.Building.{secs_entry, va_entry, added_entry, IsNotSealed}
 use Rattle.ak_encls.specs.Enclave.{Enclave}
-use Rattle.ak_build.specs.Adding.{entry_so_far, program_sealed, sealed_so_far, HasAdded}
-use Rattle.ak_build.specs.Runtime.{runtime_type, runtime_perm, runtime_entry}
+use Rattle.ak_build.specs.Adding.{entry_so_far, sealed_so_far, HasAdded}
+use Rattle.ak_build.specs.Runtime.{runtime_perm, runtime_entry}
 
 -- ---- Frames
 
@@ -46,15 +46,16 @@ high n m q f above x y z = grind (arith, nat_tests)
 
 -- ---- Handles
 
+-- the page that is sealed under a handle, if it was given
+abbrev page_under : Image → ℕ → Bool → Option Perm → Option ℕ
+page_under image k b o = option_map (λ (s : SealedPage). s.page)
+    (if b then option_map (λ perm. sealed_page_of (added_entry (record { 0 = k }) Reg perm) (page_bytes image k)) o else None)
+
 -- the handles so far have other pages
 none_seals : (image : Image) (n q k : ℕ) → n ≤ q → option_map (λ (s : SealedPage). s.page) (sealed_so_far image n k) ≢ Some q
 none_seals image n q k above e = by (nat_lt k n) (slice_get image.perms k) refl e
   where
-    abbrev page_under : Bool → Option Perm → Option ℕ
-    page_under b o = option_map (λ (s : SealedPage). s.page)
-        (if b then option_map (λ perm. sealed_page_of (added_entry (record { 0 = k }) Reg perm) (page_bytes image k)) o else None)
-
-    by : (b : Bool) (o : Option Perm) → nat_lt k n ≡ b → page_under b o ≡ Some q → ⊥
+    by : (b : Bool) (o : Option Perm) → nat_lt k n ≡ b → page_under image k b o ≡ Some q → ⊥
     by false o t d = absurd (let wrong : None ≡ Some q = d in cc)
     by true None t d = absurd (let wrong : None ≡ Some q = d in cc)
     by true (Some perm) t d =

@@ -1,10 +1,10 @@
 -- The enclave with its SECS and a VA page, and no page of its own.
-use Rattle.std.proofs.Common.{◌≡◌, ◌≢◌, ℕ, zero, suc, ◌+◌, ◌-◌, ◌*◌, ◌<◌, ◌≤◌, Bool, true, false, ◌==◌, List, [], ◌∷◌, length, set, replicate, inl, inr, refl, ap, sym, ◌∙◌, subst, arith}
+use Rattle.std.proofs.Common.{◌≡◌, ◌≢◌, ℕ, zero, suc, ◌+◌, ◌-◌, ◌*◌, ◌<◌, ◌≤◌, false, ◌==◌, List, [], ◌∷◌, length, set, replicate, inl, inr, refl, ap, sym, ◌∙◌, subst, arith}
 use Rattle.std.proofs.lemmas.Bool.{cases_lt}
 use Rattle.std.proofs.lemmas.Bool.Decides.{eqb_tells, nat_tests}
 use Rattle.std.proofs.lemmas.List.{get_or-replicate, length-replicate}
 use Rattle.std.proofs.Math.ListN.{get_or-eq_default, length-set}
-use Rattle.std.specs.Prelude.{nat_lt, max, None}
+use Rattle.std.specs.Prelude.{nat_lt, None}
 use Rattle.std.specs.Bool.{then_some}
 use Rattle.ak_core.specs.Layout.{enclave_size}
 use Rattle.ak_core.specs.declared.page.Entry.{Entry}
@@ -12,9 +12,9 @@ use Rattle.ak_epcm.specs.Entries.{free_entry, entry_at}
 use Rattle.ak_model.specs.Flat.Instructions.{number_at}
 use Rattle.ak_measure.specs.Absorbed.{HasAbsorbed}
 use Rattle.ak_measure.specs.Blocks.{create_block}
-use Rattle.ak_sealed.specs.SealedPages.{Handles, sealed_page_at, version}
+use Rattle.ak_sealed.specs.SealedPages.{sealed_page_at, version}
 use Rattle.ak_track.specs.Steps.{Cycled}
-use Rattle.ak_track.specs.Tracking.{Marks, HoldsSteps}
+use Rattle.ak_track.specs.Tracking.{HoldsSteps}
 use Rattle.ak_image.specs.Built.{pages_of}
 use Rattle.ak_image.specs.Image.{Image}
 use Rattle.ak_image.proofs.Measured.{blocks-none}
@@ -22,7 +22,7 @@ use Rattle.ak_encls.specs.Building.{secs_entry, va_entry, HasOnlyCycled}
 use Rattle.ak_encls.specs.Enclave.{Enclave, blank_page, frame_at}
 use Rattle.ak_encls.proofs.SlotChanges.{frame_same, entry_same, entry_other}
 use Rattle.ak_encls.proofs.Soundness.{zero_value}
-use Rattle.ak_build.specs.Adding.{entry_so_far, sealed_so_far, blocks_so_far, HasAdded}
+use Rattle.ak_build.specs.Adding.{entry_so_far, sealed_so_far, HasAdded}
 use Rattle.ak_build.proofs.Steps.{whole_set}
 
 -- ---- Entries

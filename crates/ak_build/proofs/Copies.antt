@@ -1,5 +1,5 @@
 -- The bytes of each page after the build.
-use Rattle.std.proofs.Common.{◌≡◌, ◌≢◌, ℕ, ◌+◌, ◌-◌, ◌*◌, ◌<◌, ◌≤◌, Bool, true, false, ◌==◌, if◌then◌else◌, List, [], length, take, drop, replicate, inl, inr, refl, ap, sym, ◌∙◌, subst, arith}
+use Rattle.std.proofs.Common.{◌≡◌, ℕ, ◌+◌, ◌-◌, ◌<◌, true, false, if◌then◌else◌, List, [], inl, inr, refl, ap, sym, ◌∙◌, subst, arith}
 use Rattle.std.proofs.lemmas.Bool.Decides.{nat_tests}
 use Rattle.std.proofs.lemmas.Option.{slice_get_cases}
 use Rattle.std.specs.Prelude.{nat_lt, Option, Some, None, slice_get}
@@ -10,8 +10,7 @@ use Rattle.ak_core.specs.declared.page.PageType.TheVariants.{Reg}
 use Rattle.ak_model.specs.Control.ControlState.{New}
 use Rattle.ak_model.specs.Flat.FlatRuns.{Flat, page_bytes as flat_page}
 use Rattle.ak_model.specs.Paging.Build.{place_at_build}
-use Rattle.ak_model.specs.Paging.Holdings.{Place, InFrame, InHandle, Gone}
-use Rattle.ak_model.specs.Paging.Pages.{pages, all_pages}
+use Rattle.ak_model.specs.Paging.Holdings.{InFrame, InHandle}
 use Rattle.ak_sealed.specs.SealedPages.{SealedPage, sealed_page_of}
 use Rattle.ak_measure.specs.Blocks.{zeros}
 use Rattle.ak_image.specs.Built.{pages_of, page_bytes, tcs_page}

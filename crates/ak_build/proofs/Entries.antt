@@ -1,23 +1,22 @@
 -- The entries of the EPCM after the build say what its frames hold.
-use Rattle.std.proofs.Common.{◌≡◌, ◌≢◌, ℕ, ◌+◌, ◌-◌, ◌<◌, ◌≤◌, Bool, true, false, ◌==◌, if◌then◌else◌, refl, ap, sym, ◌∙◌, subst, arith}
-use Rattle.std.proofs.lemmas.Bool.{eqb-true, false≢true}
+use Rattle.std.proofs.Common.{◌≡◌, ℕ, ◌+◌, ◌-◌, ◌<◌, Bool, true, false, ◌==◌, if◌then◌else◌, refl, ap, sym, ◌∙◌, subst, arith}
+use Rattle.std.proofs.lemmas.Bool.{eqb-true}
 use Rattle.std.proofs.lemmas.Bool.Decides.{nat_tests}
-use Rattle.std.specs.Prelude.{nat_lt, Option, Some, None, slice_get}
+use Rattle.std.specs.Prelude.{nat_lt, Some, None}
 use Rattle.ak_core.specs.Layout.{Layout}
 use Rattle.ak_core.specs.declared.build.Build.{Build}
-use Rattle.ak_core.specs.declared.page.Entry.{Entry}
 use Rattle.ak_core.specs.declared.page.Kind.TheVariants.{Read, Write, Exec}
 use Rattle.ak_core.specs.declared.page.Perm.{Perm}
 use Rattle.ak_core.specs.declared.page.Perm.TheVariants.{R, Rw, Rx}
-use Rattle.ak_core.specs.declared.page.PageType.TheVariants.{Secs, Tcs, Reg, Va}
+use Rattle.ak_core.specs.declared.page.PageType.TheVariants.{Tcs, Reg}
 use Rattle.ak_model.specs.Paging.Pages.{pages, tcs_page, perm_of, allows, permits_by}
 use Rattle.ak_model.specs.Paging.Build.{held_at_build, later_frame}
-use Rattle.ak_model.specs.Paging.Holdings.{Held, SecsFrame, VaFrame, PageFrame, FreeFrame}
+use Rattle.ak_model.specs.Paging.Holdings.{SecsFrame, VaFrame, PageFrame}
 use Rattle.ak_epcm.specs.Entries.{free_entry}
 use Rattle.ak_walk.specs.Agrees.{EntryAgrees, HoldsPage}
 use Rattle.ak_encls.specs.Building.{secs_entry, va_entry, added_entry, is_writing, is_executing}
 use Rattle.ak_build.specs.Adding.{entry_so_far}
-use Rattle.ak_build.specs.Runtime.{runtime_type, runtime_perm, runtime_entry}
+use Rattle.ak_build.specs.Runtime.{runtime_perm, runtime_entry}
 use Rattle.ak_build.proofs.Steps.{at_tcs, before_code}
 
 -- ---- What permissions allow

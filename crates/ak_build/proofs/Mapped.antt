@@ -1,5 +1,5 @@
 -- The page table, page by page.
-use Rattle.std.proofs.Common.{◌≡◌, ◌≢◌, ℕ, ◌+◌, ◌-◌, ◌<◌, ◌≤◌, Bool, true, false, ◌==◌, if◌then◌else◌, List, length, set, replicate, inl, inr, refl, ap, sym, ◌∙◌, subst, arith}
+use Rattle.std.proofs.Common.{◌≡◌, ℕ, ◌+◌, ◌-◌, ◌<◌, ◌≤◌, Bool, true, false, ◌==◌, if◌then◌else◌, List, length, set, replicate, inl, inr, refl, ap, sym, ◌∙◌, arith}
 use Rattle.std.proofs.lemmas.Bool.{cases_lt}
 use Rattle.std.proofs.lemmas.Bool.Decides.{eqb_tells, nat_tests}
 use Rattle.std.proofs.lemmas.List.{get_or-set_same, get_or-set_other, get_or-replicate, length-replicate}
@@ -7,8 +7,9 @@ use Rattle.std.proofs.Math.ListN.{get_or-eq_default, length-set}
 use Rattle.std.specs.Prelude.{nat_lt}
 use Rattle.ak_core.specs.Layout.{Layout}
 use Rattle.ak_core.specs.declared.build.Build.{Build}
+use Rattle.ak_core.specs.declared.page.Perm.{Perm}
 use Rattle.ak_core.specs.declared.page.Perm.TheVariants.{R, Rw, Rx}
-use Rattle.ak_model.specs.Paging.Pages.{pages, all_pages, flags_for, no_flags}
+use Rattle.ak_model.specs.Paging.Pages.{pages, all_pages, flags_for}
 use Rattle.ak_model.specs.Paging.Holdings.{Mapping}
 use Rattle.ak_model.specs.Paging.Build.{entry_at_build, program_entry}
 use Rattle.ak_pte.specs.Table.{unmapped, pte_at}
@@ -24,6 +25,16 @@ all_unmapped n p =
       | inl less ↦ get_or-replicate n p unmapped unmapped less
       | inr more ↦ let past : length (replicate n unmapped) ≤ p = omega (arith, length-replicate {A = Pte} n unmapped) in get_or-eq_default (replicate n unmapped) unmapped past
     ]
+
+at_tcs_frame : (i : ℕ) → (i == 0) ≡ true → 2 ≡ 2 + i
+at_tcs_frame i t = grind (arith, nat_tests)
+
+at_code_frame : (i : ℕ) → i < 6 → nat_lt i 5 ≡ false → 7 ≡ 2 + i
+at_code_frame i few t = grind (arith, nat_tests)
+
+-- a page that is mapped to a frame, for all that the permission allows
+abbrev mapped_to : ℕ → Perm → Mapping
+mapped_to f perm = record { frame = f; flags = flags_for perm }
 
 module _ (layout : Layout) where
   -- no page of the program is mapped
@@ -44,16 +55,11 @@ module _ (layout : Layout) where
       let a : nat_lt (n + i) n ≡ false = grind (arith, nat_tests) in
       rw (a, at_tcs n i, before_code n i) (by (i == 0) (nat_lt i 5) refl refl)
     where
-      abbrev mapping : ℕ → Mapping
-      mapping f = record { frame = f; flags = flags_for (runtime_perm i) }
-
       by : (b c : Bool) → (i == 0) ≡ b → nat_lt i 5 ≡ c →
-          (if b then record { frame = 2; flags = flags_for R }
-          else (if c then record { frame = pages layout + i - pages layout + 2; flags = flags_for Rw }
-          else record { frame = 7; flags = flags_for Rx })) ≡ record { frame = 2 + i; flags = flags_for (if b then R else (if c then Rw else Rx)) }
-      by true c s t = let e : 2 ≡ 2 + i = grind (arith, nat_tests) in ap (λ f. record { frame = f; flags = flags_for R }) e
-      by false true s t = let e : pages layout + i - pages layout + 2 ≡ 2 + i = omega arith in ap (λ f. record { frame = f; flags = flags_for Rw }) e
-      by false false s t = let e : 7 ≡ 2 + i = grind (arith, nat_tests) in ap (λ f. record { frame = f; flags = flags_for Rx }) e
+          (if b then mapped_to 2 R else (if c then mapped_to (pages layout + i - pages layout + 2) Rw else mapped_to 7 Rx)) ≡ mapped_to (2 + i) (if b then R else (if c then Rw else Rx))
+      by true c s t = let e = at_tcs_frame i s in ap (λ (f : ℕ). mapped_to f R) e
+      by false true s t = let e : pages layout + i - pages layout + 2 ≡ 2 + i = omega arith in ap (λ (f : ℕ). mapped_to f Rw) e
+      by false false s t = let e = at_code_frame i few t in ap (λ (f : ℕ). mapped_to f Rx) e
 
   -- the next page of the runtime is mapped to its frame
   pub maps_more : (table new : List Pte) (entry : Pte) (i : ℕ) → i < 6 → mapping_of entry ≡ record { frame = 2 + i; flags = flags_for (runtime_perm i) } →

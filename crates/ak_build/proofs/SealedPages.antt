@@ -1,5 +1,5 @@
 -- Slots and sealed pages after the build.
-use Rattle.std.proofs.Common.{◌≡◌, ◌≢◌, ℕ, ◌+◌, ◌-◌, ◌*◌, ◌<◌, ◌≤◌, Bool, true, false, ◌==◌, ◌&&◌, if◌then◌else◌, List, [], length, inl, inr, refl, ap, sym, ◌∙◌, subst, arith}
+use Rattle.std.proofs.Common.{◌≡◌, ℕ, ◌+◌, ◌-◌, ◌*◌, ◌<◌, Bool, true, false, ◌==◌, ◌&&◌, if◌then◌else◌, List, [], length, inl, inr, refl, ap, sym, ◌∙◌, subst, arith}
 use Rattle.std.proofs.lemmas.Bool.{eqb-true, ltb-true}
 use Rattle.std.proofs.lemmas.Bool.Decides.{nat_tests}
 use Rattle.std.proofs.lemmas.Option.{slice_get_cases}
@@ -11,13 +11,13 @@ use Rattle.ak_core.specs.declared.page.Kind.TheVariants.{Read, Write, Exec}
 use Rattle.ak_core.specs.declared.page.Perm.{Perm}
 use Rattle.ak_core.specs.declared.page.PageType.TheVariants.{Tcs, Reg}
 use Rattle.ak_model.specs.Flat.Instructions.{number_at}
-use Rattle.ak_model.specs.Paging.Pages.{pages, tcs_page, perm_of, permits_by}
+use Rattle.ak_model.specs.Paging.Pages.{pages, perm_of, permits_by}
 use Rattle.ak_model.specs.Paging.Build.{held_at_build}
 use Rattle.ak_model.specs.Paging.Handles.{live, slot}
-use Rattle.ak_model.specs.Paging.Holdings.{Held, SecsFrame, VaFrame, PageFrame, FreeFrame}
-use Rattle.ak_sealed.specs.SealedPages.{SealedPage, sealed_page_of, version}
+use Rattle.ak_model.specs.Paging.Holdings.{SecsFrame, VaFrame, PageFrame, FreeFrame}
+use Rattle.ak_sealed.specs.SealedPages.{sealed_page_of, version}
 use Rattle.ak_image.specs.Built.{pages_of, page_bytes}
-use Rattle.ak_image.specs.Image.{Image, IsWhole}
+use Rattle.ak_image.specs.Image.{Image}
 use Rattle.ak_relation.specs.State.Tables.{SealedPageAgrees, IsSealedPageOf}
 use Rattle.ak_encls.specs.Building.{added_entry}
 use Rattle.ak_build.specs.Adding.{program_sealed, sealed_so_far}

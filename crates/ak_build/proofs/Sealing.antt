@@ -1,6 +1,6 @@
 -- One more page of the program is added and written out.
-use Rattle.std.proofs.Common.{◌≡◌, ℕ, ◌+◌, ◌*◌, ◌<◌, ◌≤◌, Bool, true, false, ◌==◌, if◌then◌else◌, List, ◌++◌, length, set, refl, ap, sym, ◌∙◌, subst, arith, length-set}
-use Rattle.std.specs.Prelude.{Option, Some, slice_get}
+use Rattle.std.proofs.Common.{◌≡◌, ℕ, ◌+◌, ◌*◌, ◌<◌, ◌≤◌, false, ◌==◌, if◌then◌else◌, List, ◌++◌, length, set, ap, sym, ◌∙◌, arith, length-set}
+use Rattle.std.specs.Prelude.{Some, slice_get}
 use Rattle.ak_core.specs.declared.page.Perm.{Perm}
 use Rattle.ak_core.specs.declared.page.PageType.TheVariants.{Reg}
 use Rattle.ak_epcm.specs.Entries.{free_entry}
@@ -8,7 +8,7 @@ use Rattle.ak_model.specs.Flat.Instructions.{number_at}
 use Rattle.ak_measure.specs.Absorbed.{HasAbsorbed}
 use Rattle.ak_measure.specs.Blocks.{page_blocks}
 use Rattle.ak_measure.specs.Secinfo.{secinfo}
-use Rattle.ak_sealed.specs.SealedPages.{SealedPage, sealed_page_at, sealed_page_of}
+use Rattle.ak_sealed.specs.SealedPages.{sealed_page_at, sealed_page_of}
 use Rattle.ak_image.specs.Built.{pages_of, page_bytes, secinfo_of}
 use Rattle.ak_image.specs.Image.{Image}
 use Rattle.ak_encls.specs.Building.{added_entry, HasOnlyCycled}

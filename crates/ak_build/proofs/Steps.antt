@@ -2,7 +2,7 @@
 use Rattle.std.proofs.Common.{◌≡◌, ◌≢◌, ℕ, ◌+◌, ◌-◌, ◌*◌, ◌<◌, ◌≤◌, Bool, true, false, ◌==◌, if◌then◌else◌, List, ◌++◌, length, set, inl, inr, refl, ap, sym, ◌∙◌, subst, arith}
 use Rattle.std.proofs.lemmas.Bool.{cases_lt}
 use Rattle.std.proofs.lemmas.Bool.Decides.{eqb_tells, nat_tests}
-use Rattle.std.specs.Prelude.{nat_lt, Option, Some, None, slice_get}
+use Rattle.std.specs.Prelude.{nat_lt, Some, None, slice_get}
 use Rattle.std.specs.Bool.{then_some}
 use Rattle.std.specs.Option.{option_map, option_map_or}
 use Rattle.ak_core.specs.declared.page.Entry.{Entry}
@@ -15,7 +15,7 @@ use Rattle.ak_measure.specs.Absorbed.{HasAbsorbed}
 use Rattle.ak_measure.specs.Blocks.{page_blocks}
 use Rattle.ak_measure.specs.Secinfo.{secinfo}
 use Rattle.ak_measure.specs.declared.measurement.Measure.{Measure}
-use Rattle.ak_sealed.specs.SealedPages.{SealedPage, Handles, sealed_page_at, sealed_page_of, version}
+use Rattle.ak_sealed.specs.SealedPages.{Handles, sealed_page_at, sealed_page_of, version}
 use Rattle.ak_core.specs.Layout.{enclave_size}
 use Rattle.ak_image.specs.Built.{pages_of, page_bytes, secinfo_of, regular}
 use Rattle.ak_image.specs.Image.{Image}

@@ -2,7 +2,7 @@
 -- volume 3D, ECREATE, EADD, EEXTEND, EWB.)
 use Rattle.std.specs.Prelude.{◌≡◌, ℕ, ◌+◌, ◌-◌, ◌*◌, ◌<◌, List, length, map, ◌==◌, nat_lt, Option, None, slice_get, if◌then◌else◌}
 use Rattle.std.specs.Bool.{then_some}
-use Rattle.std.specs.List.{range_with_len}
+use Rattle.std.specs.List.{All, range_with_len}
 use Rattle.std.specs.Option.{option_map}
 use Rattle.ak_core.specs.Layout.{enclave_size}
 use Rattle.ak_core.specs.declared.page.Entry.{Entry}
@@ -13,7 +13,7 @@ use Rattle.ak_measure.specs.Absorbed.{HasAbsorbed}
 use Rattle.ak_measure.specs.Blocks.{blocks_of}
 use Rattle.ak_sealed.specs.SealedPages.{SealedPage, sealed_page_at, sealed_page_of, version}
 use Rattle.ak_image.specs.Built.{pages_of, page_bytes, secinfo_of}
-use Rattle.ak_image.specs.Image.{Image}
+use Rattle.ak_image.specs.Image.{Image, IsWhole}
 use Rattle.ak_encls.specs.Building.{secs_entry, va_entry, added_entry, HasOnlyCycled}
 use Rattle.ak_encls.specs.Enclave.{Enclave, frame_at}
 use Rattle.ak_build.specs.Runtime.{runtime_entry}
@@ -39,6 +39,11 @@ sealed_so_far image n k = if nat_lt k n then program_sealed image k else None
 abbrev pub blocks_so_far : Image → ℕ → List ℕ
 blocks_so_far image count =
     blocks_of (enclave_size (pages_of image)) (map (λ p. (secinfo_of image p, page_bytes image p)) (range_with_len 0 count))
+
+-- the image has 4096 bytes for each page, each of 8 bits
+pub record HasBytes (image : Image) : Type 0 where
+  pub whole : IsWhole image
+  pub bytes : All (λ v. v < 256) image.bytes
 
 -- n pages of the program are sealed, m pages of the runtime are in frames, all of these are measured in their order, there is spare for
 -- the other pages of the program, and nobody entered

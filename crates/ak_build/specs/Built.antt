@@ -30,11 +30,11 @@ pub record AreOutside (processors : ℕ → Processor) : Type 0 where
 
 -- a machine with these processors, of which this is the paging part and the page table, is as the build of an image of these bytes
 -- leaves it
-pub record BuiltAs (layout : Layout) (image : List ℕ) (built : Built) (processors : ℕ → Processor) : Type 0 where
+pub record BuiltAs (layout : Layout) (image : List ℕ) (enclave : Built) (processors : ℕ → Processor) : Type 0 where
   pub state : State
-  pub paging : IsPaging layout built.encls state
-  pub mapped : (p : ℕ) → p < all_pages layout → state.table p ≡ mapping_of (pte_at built.table p)
-  pub sized : length built.table ≡ all_pages layout
+  pub paging : IsPaging layout enclave.encls state
+  pub mapped : (p : ℕ) → p < all_pages layout → state.table p ≡ mapping_of (pte_at enclave.table p)
+  pub sized : length enclave.table ≡ all_pages layout
   pub processors_are : state.processors ≡ processors
   pub built : IsBuilt layout image state
 

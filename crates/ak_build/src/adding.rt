@@ -1,6 +1,6 @@
 // Pages are added, measured, and where they are the program's written out.
-ghost use Rattle.std.specs.Prelude.{◌≡◌, ◌<◌, ◌≤◌, ◌+◌, IfOk, length};
-ghost use Rattle.ak_build.specs.Adding.{HasAdded};
+ghost use Rattle.std.specs.Prelude.{◌≡◌, ◌<◌, ◌≤◌, ◌+◌, IfOk, OnOk, length};
+ghost use Rattle.ak_build.specs.Adding.{HasAdded, HasBytes};
 
 use crate::runtime::{runtime_perm, runtime_type};
 use ak_core::{
@@ -26,7 +26,8 @@ pub(crate) fn begun(
 ) -> Result<Encls, OutOfMemory>
     requires some_frames { 9 ≤ frames }
     requires few_lps { lps ≤ 4 }
-    ensures { IfOk result (λ encls. HasAdded image.now frames lps encls 0 0) }
+    ensures begun { IfOk result (λ encls. HasAdded image.now frames lps encls 0 0) }
+    ensures bytes { OnOk result (HasBytes image.now) }
 {
     let mut encls = Encls::ecreate(alloc, image.size(), frames, lps)?;
     encls.reserve(image.pages())?;

@@ -1,9 +1,9 @@
 // The build, from ECREATE to EINIT.
-ghost use Rattle.std.specs.Prelude.{◌≡◌, ◌↔◌, ◌≤◌, ℕ, true, false, Err, IfOk, length};
+ghost use Rattle.std.specs.Prelude.{◌≡◌, ◌↔◌, ◌≤◌, ℕ, true, false, Err, IfOk, OnOk, length};
 ghost use Rattle.ak_measure.specs.Signers.{knows, allows};
 ghost use Rattle.ak_image.specs.Built.{digest_of};
 ghost use Rattle.ak_relation.specs.State.MachineState.{Processor};
-ghost use Rattle.ak_build.specs.Adding.{HasAdded};
+ghost use Rattle.ak_build.specs.Adding.{HasAdded, HasBytes};
 ghost use Rattle.ak_build.specs.Mapping.{MapsEach};
 ghost use Rattle.ak_build.specs.Built.{sealed_layout, AreOutside, BuiltAs, HoldsPages};
 
@@ -73,6 +73,7 @@ fn of_image(alloc: Global, image: &Image, frames: u32, lps: u8) -> Result<Built,
     ensures layout { IfOk result (λ b. b.layout ≡ sealed_layout image.now frames lps) }
     ensures added { IfOk result (λ b. HasAdded image.now frames lps b.encls (length image.now.perms) 6) }
     ensures mapped { IfOk result (λ b. MapsEach (sealed_layout image.now frames lps) b.table) }
+    ensures bytes { OnOk result (HasBytes image.now) }
 {
     let layout = image.layout(alloc, frames, lps)?.sealed();
     let mut encls = begun(alloc, image, frames, lps)?;

@@ -7,7 +7,9 @@ ghost use Rattle.ak_build.specs.Mapping.{MapsEach, MapsFirst};
 ghost use Rattle.ak_build.specs.Runtime.{runtime_perm};
 
 use crate::runtime::{flags_for, runtime_perm};
-use ak_core::{Frame, Layout, OutOfMemory, Page, RUNTIME_FRAME, RUNTIME_PAGES, all_pages, tcs_page};
+use ak_core::{
+    Frame, Layout, OutOfMemory, Page, RUNTIME_FRAME, RUNTIME_PAGES, all_pages, tcs_page,
+};
 use ak_pte::{PageTable, Pte};
 use std::alloc::Global;
 

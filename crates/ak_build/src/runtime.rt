@@ -9,11 +9,7 @@ use ak_core::{Flags, PageType, Perm, SSA_AREAS};
 pub(crate) fn runtime_type(i: u32) -> PageType
     ensures { result ≡ runtime_type i }
 {
-    if i == 0 {
-        PageType::Tcs
-    } else {
-        PageType::Reg
-    }
+    if i == 0 { PageType::Tcs } else { PageType::Reg }
 }
 
 /// What the kernel maps a page of the runtime for. The TCS page is mapped for reading.
