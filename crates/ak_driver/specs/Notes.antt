@@ -8,7 +8,7 @@ use Rattle.ak_model.specs.Kernels.Repeats.{same_move, was_refused}
 use Rattle.ak_driver.specs.NotedTables.{HasTables, IsThere}
 use Rattle.ak_driver.specs.NotedCycles.{HasCycles}
 use Rattle.ak_driver.specs.NotedCounts.{HasCounts}
-use Rattle.ak_driver.specs.NotedRequests.{AreRequests, kept_in}
+use Rattle.ak_driver.specs.NotedRequests.{AreRequests, request_note}
 use Rattle.ak_driver.specs.declared.driver.Driver.{Driver}
 
 -- the move is the one that was refused
@@ -23,7 +23,7 @@ pub record Notes (driver : Driver) (layout : Layout) (past : History) : Type 0 w
   pub tables_are : HasTables driver.tables layout past
   pub cycles_are : HasCycles driver.tracking layout past
   pub counts_are : HasCounts driver.counts past
-  pub requests_are : AreRequests (kept_in driver.requests) (service layout past)
+  pub requests_are : AreRequests (request_note driver.requests) (service layout past)
   pub refused_is : (m : Move) → refuses driver.refused m ≡ was_refused past m
 
 -- the change may come next: the frame or the processor that it names is one of the layout, no more than 512 clusters are in

@@ -5,7 +5,7 @@ ghost use Rattle.ak_core.specs.Layout.{IsValid};
 ghost use Rattle.ak_core.specs.declared.moves.Exit.TheVariants.{Ask, Ready};
 ghost use Rattle.ak_model.specs.Kernels.Counted.{service};
 ghost use Rattle.ak_model.specs.Paging.Build.{queue_at_build};
-ghost use Rattle.ak_driver.specs.NotedRequests.{AreRequests, kept_after, kept_by, kept_in};
+ghost use Rattle.ak_driver.specs.NotedRequests.{AreRequests, clusters_in, note_after, note_by, request_note};
 
 use crate::changes::Change;
 use ak_core::{Build, Exit, Layout};
@@ -27,7 +27,7 @@ impl Requests {
     /// As the build leaves them.
     pub fn new(layout: &Layout) -> Requests
         requires { IsValid layout.now }
-        ensures { AreRequests (kept_in result) (service layout.now []) }
+        ensures { AreRequests (request_note result) (service layout.now []) }
     {
         Requests {
             clusters: clusters_at_build(layout),
@@ -38,8 +38,8 @@ impl Requests {
 
     /// One more change is told. There is room for 512 clusters.
     pub fn note(&mut self, change: &Change)
-        ensures { length (drop (kept_after change.now (kept_in self.old)).dropped (kept_after change.now (kept_in self.old)).clusters) ≤ 512
-            → kept_in self.new ≡ kept_after change.now (kept_in self.old) }
+        ensures { length (clusters_in (note_after change.now (request_note self.old))) ≤ 512
+            → request_note self.new ≡ note_after change.now (request_note self.old) }
     {
         if let Change::Exits(_, exit) = *change {
             match exit {
@@ -67,7 +67,7 @@ impl Requests {
 
     // So many clusters are dropped, and one is asked for.
     fn ask(&mut self, d: u32, c: u32)
-        ensures { kept_in self.new ≡ kept_by (Ask d c) (kept_in self.old) }
+        ensures { request_note self.new ≡ note_by (Ask d c) (request_note self.old) }
     {
         self.forget();
         self.dropped = self.clusters.len().min(d as usize);
@@ -76,8 +76,7 @@ impl Requests {
 
     // The cluster that was asked for is in.
     fn serve(&mut self)
-        ensures { length (drop (kept_by Ready (kept_in self.old)).dropped (kept_by Ready (kept_in self.old)).clusters) ≤ 512
-            → kept_in self.new ≡ kept_by Ready (kept_in self.old) }
+        ensures { length (clusters_in (note_by Ready (request_note self.old))) ≤ 512 → request_note self.new ≡ note_by Ready (request_note self.old) }
     {
         if let Some(c) = self.asked {
             self.forget();

@@ -39,7 +39,9 @@ const READABLE: Flags = Flags {
 };
 
 const ENTER: (Move, Answer) = (Move::Eenter(Lp(0), 0), Answer::Ok);
+
 const RESUME: (Move, Answer) = (Move::Eresume(Lp(0)), Answer::Ok);
+
 const TRACK: (Move, Answer) = (Move::Etrack, Answer::Ok);
 
 fn run(exit: Exit) -> (Move, Answer) {
@@ -70,10 +72,7 @@ fn write_out(f: u32, p: u16, k: u32) -> (Move, Answer) {
 }
 
 fn map(p: u32, f: u32) -> (Move, Answer) {
-    (
-        Move::SetPte(Page(p), Frame(f), EXECUTABLE),
-        Answer::Ok,
-    )
+    (Move::SetPte(Page(p), Frame(f), EXECUTABLE), Answer::Ok)
 }
 
 // One page, and room for it.
@@ -226,10 +225,7 @@ fn pages_of_a_cluster_leave_and_come_together(rt: HostRuntime) -> Result<(), Fai
         load(8, 0),
         load(9, 3),
         map(0, 8),
-        (
-            Move::SetPte(Page(3), Frame(9), WRITABLE),
-            Answer::Ok,
-        ),
+        (Move::SetPte(Page(3), Frame(9), WRITABLE), Answer::Ok),
         ENTER,
         run(Exit::Ready),
         RESUME,
@@ -245,14 +241,8 @@ fn pages_of_a_cluster_leave_and_come_together(rt: HostRuntime) -> Result<(), Fai
         write_out(9, 3, 5),
         load(8, 1),
         load(9, 2),
-        (
-            Move::SetPte(Page(1), Frame(8), WRITABLE),
-            Answer::Ok,
-        ),
-        (
-            Move::SetPte(Page(2), Frame(9), READABLE),
-            Answer::Ok,
-        ),
+        (Move::SetPte(Page(1), Frame(8), WRITABLE), Answer::Ok),
+        (Move::SetPte(Page(2), Frame(9), READABLE), Answer::Ok),
         ENTER,
     ];
     assert_eq!(rt; first_wrong(&mut driver, &layout, &[], &pairs), None);
@@ -272,10 +262,7 @@ fn a_frame_is_tracked_once_those_inside_have_left(rt: HostRuntime) -> Result<(),
         load(8, 0),
         load(9, 3),
         map(0, 8),
-        (
-            Move::SetPte(Page(3), Frame(9), WRITABLE),
-            Answer::Ok,
-        ),
+        (Move::SetPte(Page(3), Frame(9), WRITABLE), Answer::Ok),
         ENTER,
         run(Exit::Ready),
     ];

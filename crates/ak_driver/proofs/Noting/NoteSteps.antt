@@ -1,5 +1,5 @@
 -- The driver stands for the history with one more move, and at first for the empty one.
-use Rattle.std.proofs.Common.{◌≡◌, ℕ, ◌+◌, ◌^◌, ◌<◌, ◌≤◌, Bool, true, false, ◌∷◌, length, drop, refl, ap, sym, ◌∙◌, subst, arith}
+use Rattle.std.proofs.Common.{◌≡◌, ℕ, ◌+◌, ◌^◌, ◌<◌, ◌≤◌, Bool, true, false, ◌∷◌, length, refl, ap, sym, ◌∙◌, subst, arith}
 use Rattle.std.specs.Prelude.{◌&&◌, not, is_some}
 use Rattle.ak_core.specs.Layout.{Layout}
 use Rattle.ak_core.specs.declared.moves.Move.{Move}
@@ -14,7 +14,7 @@ use Rattle.ak_model.specs.Kernels.Repeats.{same_move, is_done}
 use Rattle.ak_driver.specs.Changes.{told}
 use Rattle.ak_driver.specs.NotedCounts.{ended_after, asked_after, HasCounts}
 use Rattle.ak_driver.specs.NotedCycles.{newest_after, entered_after, AreCycles}
-use Rattle.ak_driver.specs.NotedRequests.{kept_in, kept_after, AreRequests}
+use Rattle.ak_driver.specs.NotedRequests.{clusters_in, request_note, note_after, AreRequests}
 use Rattle.ak_driver.specs.NotedTables.{frames_after, pages_after, facts_after, AreTables, IsThere}
 use Rattle.ak_driver.specs.Notes.{refuses, Notes, IsPlausible}
 use Rattle.ak_driver.specs.declared.changes.Change.{Change}
@@ -90,10 +90,10 @@ module _ (old new : Driver) (layout : Layout) (past : History) (pair : Pair) (ch
       (sym entered)
       (cycles_step layout past old.tracking.newest old.tracking.entered h.cycles_are change there))
 
-  requests : (length (drop (kept_after change (kept_in old.requests)).dropped (kept_after change (kept_in old.requests)).clusters) ≤ 512
-      → kept_in new.requests ≡ kept_after change (kept_in old.requests)) → AreRequests (kept_in new.requests) (service_after (told change) (service layout past))
+  requests : (length (clusters_in (note_after change (request_note old.requests))) ≤ 512
+      → request_note new.requests ≡ note_after change (request_note old.requests)) → AreRequests (request_note new.requests) (service_after (told change) (service layout past))
   requests kept =
-      let after = requests_step (kept_in old.requests) (service layout past) h.requests_are change in
+      let after = requests_step (request_note old.requests) (service layout past) h.requests_are change in
       let room : length (service_after (told change) (service layout past)).queue ≤ 512 =
       subst (λ (c : Histories.Change). length (service_after c (service layout past)).queue ≤ 512) (sym is) plausible.room in
       subst (λ k. AreRequests k (service_after (told change) (service layout past))) (sym (kept (let e = ap length after.queue_is in omega arith))) after
@@ -105,8 +105,8 @@ module _ (old new : Driver) (layout : Layout) (past : History) (pair : Pair) (ch
       → new.tracking.newest ≡ newest_after change place old.tracking.newest
       → new.tracking.entered ≡ entered_after change old.tracking.newest old.tracking.entered
       → Counted old.counts new.counts (told change)
-      → (length (drop (kept_after change (kept_in old.requests)).dropped (kept_after change (kept_in old.requests)).clusters) ≤ 512
-      → kept_in new.requests ≡ kept_after change (kept_in old.requests))
+      → (length (clusters_in (note_after change (request_note old.requests))) ≤ 512
+      → request_note new.requests ≡ note_after change (request_note old.requests))
       → ((m : Move) → refuses new.refused m ≡ (same_move pair.0 m && not (is_done pair.1)))
       → Notes new layout (pair ∷ past)
   notes_step at frames notes newest entered counts kept refused = record {
@@ -120,6 +120,6 @@ module _ (old new : Driver) (layout : Layout) (past : History) (pair : Pair) (ch
         (subst (λ (c : Histories.Change). AreCycles new.tracking.newest new.tracking.entered layout.lps (length past + 1)
         (λ lp. is_some (since_after c lp (length past + 1) (since past lp))) (cycles_after layout past c (cycles layout past))) is (all_cycles newest entered));
     counts_are = counts_step old.counts new.counts past pair plausible.few h.counts_are (subst (Counted old.counts new.counts) is counts);
-    requests_are = subst (λ (c : Histories.Change). AreRequests (kept_in new.requests) (service_after c (service layout past))) is (requests kept);
+    requests_are = subst (λ (c : Histories.Change). AreRequests (request_note new.requests) (service_after c (service layout past))) is (requests kept);
     refused_is = refused;
   }

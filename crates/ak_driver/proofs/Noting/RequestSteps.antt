@@ -6,7 +6,7 @@ use Rattle.ak_core.specs.declared.moves.Exit.{Exit}
 use Rattle.ak_core.specs.declared.moves.Exit.TheVariants.{Still, Pf, Vector, Call, Ask, Ready, Nothing, Stopped, Ended, Trapped}
 use Rattle.ak_model.specs.Kernels.Counted.{Service, with_served, service_by, service_after}
 use Rattle.ak_driver.specs.Changes.{told}
-use Rattle.ak_driver.specs.NotedRequests.{Kept, served, kept_by, kept_after, open_request, AreRequests}
+use Rattle.ak_driver.specs.NotedRequests.{RequestNote, asked_in, note_by, note_after, open_request, AreRequests}
 use Rattle.ak_driver.specs.declared.changes.Change.{Change}
 use Rattle.ak_driver.specs.declared.changes.Change.TheVariants.{Unchanged, Maps, Blocks, Cycles, WritesOut, Loads, Removes, MakesVa, Discards, Enters, Resumes, Exits, Interrupts}
 
@@ -37,21 +37,21 @@ take-min (x ∷ xs) (suc d) =
     let e : min (suc (length xs)) (suc d) ≡ suc (min (length xs) d) = omega arith in
     ap (λ (n : ℕ). take n (x ∷ xs)) e ∙ ap (λ l. x ∷ l) (take-min xs d)
 
-module _ (kept : Kept) (before : Service) (h : AreRequests kept before) where
-  asked_step : (d c : ℕ) → AreRequests (kept_by (Ask d c) kept) (service_by (Ask d c) before)
+module _ (kept : RequestNote) (before : Service) (h : AreRequests kept before) where
+  asked_step : (d c : ℕ) → AreRequests (note_by (Ask d c) kept) (service_by (Ask d c) before)
   asked_step d c = record {
     queue_is = drop-min (drop kept.dropped kept.clusters) d ∙ ap (drop d) h.queue_is;
     request_is = ap (λ xs. Some (record { dropped = xs; cluster = c })) (take-min (drop kept.dropped kept.clusters) d ∙ ap (take d) h.queue_is);
   }
 
-  served_step : (o : Option ℕ) → kept.asked ≡ o → AreRequests (served kept o) (with_served before (open_request o (take kept.dropped kept.clusters)))
+  served_step : (o : Option ℕ) → kept.asked ≡ o → AreRequests (asked_in kept o) (with_served before (open_request o (take kept.dropped kept.clusters)))
   served_step None e = h
   served_step (Some c) e = record { queue_is = ap (λ xs. xs ++ c ∷ []) h.queue_is; request_is = refl }
 
-  exit_step : (exit : Exit) → AreRequests (kept_by exit kept) (service_by exit before)
+  exit_step : (exit : Exit) → AreRequests (note_by exit kept) (service_by exit before)
   exit_step (Ask d c) = asked_step d c
   exit_step Ready =
-      subst (λ s. AreRequests (served kept kept.asked) s) (ap (with_served before) h.request_is) (served_step kept.asked refl)
+      subst (λ s. AreRequests (asked_in kept kept.asked) s) (ap (with_served before) h.request_is) (served_step kept.asked refl)
   exit_step Still = h
   exit_step (Pf base code) = h
   exit_step (Vector v) = h
@@ -62,7 +62,7 @@ module _ (kept : Kept) (before : Service) (h : AreRequests kept before) where
   exit_step (Trapped v) = h
 
   -- what is kept after one more change
-  pub requests_step : (change : Change) → AreRequests (kept_after change kept) (service_after (told change) before)
+  pub requests_step : (change : Change) → AreRequests (note_after change kept) (service_after (told change) before)
   requests_step (Exits lp exit) = exit_step exit
   requests_step Unchanged = h
   requests_step (Maps p f flags) = h
