@@ -80,25 +80,25 @@ module _ (layout : Layout) (r : Reads) where
   two_fits (ByPage t) = omega arith
 
   entry_fits : (k v : ℕ) (phase : Phase) → k < 3 → (k ≡ 0 → IsTrue (opens phase)) → Fits k (entry_row layout r k v phase).areas
-  entry_fits k v (Ended s) small open = tt
-  entry_fits k v (Trapped x) small open = tt
-  entry_fits k v Dead small open = tt
-  entry_fits zero v New small open = tt
-  entry_fits zero v Calling small open = tt
-  entry_fits zero v Running small open = absurd (let wrong = open refl in cc)
-  entry_fits zero v (Asked c) small open = absurd (let wrong = open refl in cc)
-  entry_fits (suc zero) v New small open = one_fits r.saved.cause
-  entry_fits (suc zero) v Calling small open = one_fits r.saved.cause
-  entry_fits (suc zero) v Running small open = one_fits r.saved.cause
-  entry_fits (suc zero) v (Asked c) small open = tt
-  entry_fits (suc (suc zero)) v New small open = two_fits r.saved.cause
-  entry_fits (suc (suc zero)) v Calling small open = two_fits r.saved.cause
-  entry_fits (suc (suc zero)) v Running small open = two_fits r.saved.cause
-  entry_fits (suc (suc zero)) v (Asked c) small open = two_fits r.saved.cause
-  entry_fits (suc (suc (suc k))) v New small open = absurd (omega arith)
-  entry_fits (suc (suc (suc k))) v Calling small open = absurd (omega arith)
-  entry_fits (suc (suc (suc k))) v Running small open = absurd (omega arith)
-  entry_fits (suc (suc (suc k))) v (Asked c) small open = absurd (omega arith)
+  entry_fits k v (Ended s) small opened = tt
+  entry_fits k v (Trapped x) small opened = tt
+  entry_fits k v Dead small opened = tt
+  entry_fits zero v New small opened = tt
+  entry_fits zero v Calling small opened = tt
+  entry_fits zero v Running small opened = absurd (let wrong = opened refl in cc)
+  entry_fits zero v (Asked c) small opened = absurd (let wrong = opened refl in cc)
+  entry_fits (suc zero) v New small opened = one_fits r.saved.cause
+  entry_fits (suc zero) v Calling small opened = one_fits r.saved.cause
+  entry_fits (suc zero) v Running small opened = one_fits r.saved.cause
+  entry_fits (suc zero) v (Asked c) small opened = tt
+  entry_fits (suc (suc zero)) v New small opened = two_fits r.saved.cause
+  entry_fits (suc (suc zero)) v Calling small opened = two_fits r.saved.cause
+  entry_fits (suc (suc zero)) v Running small opened = two_fits r.saved.cause
+  entry_fits (suc (suc zero)) v (Asked c) small opened = two_fits r.saved.cause
+  entry_fits (suc (suc (suc k))) v New small opened = absurd (omega arith)
+  entry_fits (suc (suc (suc k))) v Calling small opened = absurd (omega arith)
+  entry_fits (suc (suc (suc k))) v Running small opened = absurd (omega arith)
+  entry_fits (suc (suc (suc k))) v (Asked c) small opened = absurd (omega arith)
 
   finish_fits : (phase : Phase) → Fits 1 (finish_row r phase).areas
   finish_fits (Asked c) = omega arith
