@@ -7,5 +7,6 @@ pub mod Machines
 pub mod Written
 pub mod Completed
 pub mod Ended
+pub mod Instructed
 pub mod Turning
 pub mod Keeping

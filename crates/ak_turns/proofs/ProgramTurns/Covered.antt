@@ -67,12 +67,12 @@ module _ (tlb : List Translation) (fills : List Fill) (holds : HoldsFills tlb fi
 
     filled_walked : (state : State) (w : List Access) (t : Access) → is_filled (map (walked_fill state) w ++ fills) t ≡ (is_among w t || is_filled fills t)
     filled_walked state [] t = refl
-    filled_walked state (u ∷ w) t = by_test (same_access t u) refl (filled_walked state w t)
+    filled_walked state (u ∷ w) t = by_test (same_access t u) (filled_walked state w t)
       where
-        by_test : (b : Bool) → same_access t u ≡ b → is_filled (map (walked_fill state) w ++ fills) t ≡ (is_among w t || is_filled fills t)
-            → is_filled (map (walked_fill state) (u ∷ w) ++ fills) t ≡ (is_among (u ∷ w) t || is_filled fills t)
-        by_test true e more = rw e refl
-        by_test false e more = rw e more
+        by_test : (b : Bool) → is_filled (map (walked_fill state) w ++ fills) t ≡ (is_among w t || is_filled fills t)
+            → (b || is_filled (map (walked_fill state) w ++ fills) t) ≡ ((b || is_among w t) || is_filled fills t)
+        by_test true more = refl
+        by_test false more = more
 
     -- after it all that was granted is cached, and all that was
     pub filled_after : (state : State) (t : Access) → is_filled (map (walked_fill state) walked ++ fills) t ≡ (is_among granted t || is_filled fills t)
@@ -122,7 +122,7 @@ module _ (entries : List Entry) (table : List Pte) (cached : List Translation) w
 -- ---- Over the machine's tables
 
 pub low_among : (layout : Layout) (all : List Access) (t : Access) → AllLow layout all → is_among all t ≡ true → t.page.0 < pages layout
-low_among layout [] t low some = cc
+low_among layout [] t low some = absurd (cc)
 low_among layout (u ∷ all) t low some = by_test (same_access t u) refl (low_among layout all t low.1) some
   where
     by_test : (b : Bool) → same_access t u ≡ b → (is_among all t ≡ true → t.page.0 < pages layout) → (b || is_among all t) ≡ true → t.page.0 < pages layout

@@ -100,8 +100,8 @@ unkept : (tlb : List Translation) (fills : List Fill) (granted : List Access) (t
 unkept tlb fills granted t holds none apart = by_test (is_kept (granted ++ accesses_of fills) t) refl
   where
     right_of : (a b : Bool) → (a || b) ≡ true → a ≡ false → b ≡ true
-    right_of true b some no = cc
-    right_of false b some no = some
+    right_of true b some other = cc
+    right_of false b some other = some
 
     both : (a b : Bool) → a ≡ true → b ≡ true → (a && b) ≡ true
     both true b e d = d

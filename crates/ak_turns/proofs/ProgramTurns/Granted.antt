@@ -32,7 +32,7 @@ module _ (entries : List Entry) (table : List Pte) (cached : List Translation) w
       → option_or o (then_some b (pte_at table t.page.0).frame) ≡ Some f → (frame_in (found cached t) ≡ Some f) ⊎ IsWalk entries table cached t f
   by_cached t f (Some g) b is walked granted = inl (is ∙ granted)
   by_cached t f None true is walked granted = inr (record { uncached = is; walked = walked; frame = cc })
-  by_cached t f None false is walked granted = cc
+  by_cached t f None false is walked granted = absurd (cc)
 
   -- it is cached, or a walk finds it
   pub granted_by : (t : Access) (f : Frame) → granted_frame entries table cached t ≡ Some f → (frame_in (found cached t) ≡ Some f) ⊎ IsWalk entries table cached t f
@@ -51,7 +51,7 @@ module _ (granted : Kind → Option Frame) where
   one_of (Some f) w x e d c some = record { kind = Read; frame = f; is = e }
   one_of None (Some f) x e d c some = record { kind = Write; frame = f; is = d }
   one_of None None (Some f) e d c some = record { kind = Exec; frame = f; is = c }
-  one_of None None None e d c some = cc
+  one_of None None None e d c some = absurd (cc)
 
 module _ (entries : List Entry) (table : List Pte) (cached : List Translation) where
   -- some access of a page that is held is granted

@@ -1,7 +1,7 @@
 -- A memory shows each flat state that its processor sees; and granted accesses of the program are permitted.
 use Rattle.std.proofs.Common.{◌≡◌, ℕ, ◌+◌, ◌<◌, ◌≤◌, Bool, true, false, List, [], ◌∷◌, length, refl, ap, sym, ◌∙◌, subst, inl, inr, arith}
 use Rattle.std.proofs.lemmas.Bool.{and_parts}
-use Rattle.std.specs.Prelude.{Option, Some, None, is_some, ◌&&◌, ◌||◌, not}
+use Rattle.std.specs.Prelude.{Option, Some, None, is_some, ◌&&◌, ◌||◌, not, if◌then◌else◌}
 use Rattle.std.specs.List.{list_all, list_any}
 use Rattle.ak_core.specs.Layout.{Layout}
 use Rattle.ak_core.specs.Mem.{Access, access_to}
@@ -30,7 +30,7 @@ use Rattle.ak_memory.proofs.Putting.{whole_page-is, bytes_in_frame}
 use Rattle.ak_memory.specs.Granting.{is_walked, granted_frame, is_granted, is_seen, whole_page}
 use Rattle.ak_turns.specs.Instructing.{memory_bytes}
 use Rattle.ak_turns.proofs.ProgramTurns.Granted.{IsWalk, IsGrantedIn, granted_by, seen_granted}
-use Rattle.ak_turns.proofs.ProgramTurns.Walks.{IsKnown, own_walk, machine_walk}
+use Rattle.ak_turns.proofs.ProgramTurns.Walks.{IsKnown, own_walk, machine_walk, frame_of}
 
 -- ---- Frames
 
@@ -83,17 +83,17 @@ module _ (layout : Layout) (cpu : Cpu) (table : List Pte) (encls : Enclave) (k :
     fill_bytes : (flat : Flat) (fills : List Fill) (t : Access) (f : Frame) → t.page.0 < pages layout → SeenFills layout state flat fills → frame_for fills t ≡ Some f
         → state.frames f.0 ≡ page_bytes flat t.page.0
     fill_bytes flat [] t f low seen e = cc
-    fill_bytes flat (fill ∷ fills) t f low seen e = by_test (same_access t fill.access) refl e
+    fill_bytes flat (fill ∷ fills) t f low seen e = by_test (same_access t fill.access) refl e (fill_bytes flat fills t f low seen.1)
       where
-        by_test : (b : Bool) → same_access t fill.access ≡ b → frame_for (fill ∷ fills) t ≡ Some f → state.frames f.0 ≡ page_bytes flat t.page.0
-        by_test true is e =
+        by_test : (b : Bool) → same_access t fill.access ≡ b → (if b then Some (frame_of fill) else frame_for fills t) ≡ Some f
+            → (frame_for fills t ≡ Some f → state.frames f.0 ≡ page_bytes flat t.page.0) → state.frames f.0 ≡ page_bytes flat t.page.0
+        by_test true is e more =
             let same : t ≡ fill.access = access_is t fill.access is in
-            let there : Some (record { 0 = fill.frame }) ≡ Some f = rw is at e in
-            let frame : record { 0 = fill.frame } ≡ f = cc in
+            let frame : frame_of fill ≡ f = cc in
             ap (λ (g : Frame). state.frames g.0) (sym frame)
             ∙ seen.0 (subst (λ (u : Access). u.page.0 < pages layout) same low)
             ∙ ap (λ (u : Access). page_bytes flat u.page.0) (sym same)
-        by_test false is e = fill_bytes flat fills t f low seen.1 (rw is at e)
+        by_test false is e more = more e
 
     -- the frame in which an access is granted has the program's bytes
     frame_bytes : (flat : Flat) → Sees layout state cpu.lp.0 flat → (t : Access) (f : Frame) → t.page.0 < pages layout → granted_frame encls.entries table cpu.tlb t ≡ Some f

@@ -16,7 +16,7 @@ use Rattle.ak_exec.specs.declared.turn.Turn.{Turn}
 use Rattle.ak_model.specs.Clusters.Queue.{is_in}
 use Rattle.ak_model.specs.Control.RuntimeTurn.{shown_fault}
 use Rattle.ak_model.specs.Flat.FlatRuns.{Flat, End, line, is_forbidden}
-use Rattle.ak_model.specs.Paging.Pages.{pages, all_pages, cluster_at}
+use Rattle.ak_model.specs.Paging.Pages.{pages, all_pages, cluster_at, ssa_page, tcs_page}
 use Rattle.ak_epcm.specs.Entries.{entry_at, is_of_page, has_page}
 use Rattle.ak_pager.specs.Contexts.{step_address}
 use Rattle.ak_pager.specs.declared.turn.RtTurn.{RtTurn}
@@ -46,15 +46,16 @@ use Rattle.ak_enclu.specs.Machines.{IsMachine, LeadsToWhere}
 use Rattle.ak_enclu.specs.Passing.{outside_now, ExitsTo}
 use Rattle.ak_enclu.specs.TcsBytes.{saved_of, refuses}
 use Rattle.ak_enclu.specs.declared.cpu.Cpu.{Cpu}
-use Rattle.ak_memory.specs.Granting.{is_granted, walked_of, fill_by}
+use Rattle.ak_memory.specs.Granting.{is_granted, in_use, walked_of, fill_by}
 use Rattle.ak_memory.specs.declared.memory.Memory.{Memory}
 use Rattle.ak_turns.specs.Instructing.{memory_bytes, granted_in, Instructs}
 use Rattle.ak_turns.specs.Running.{IsRunning, Runs, TurnsTo, event_of, fault_event}
 use Rattle.ak_turns.specs.declared.notes.ProgramNote.{ProgramNote}
 use Rattle.ak_turns.specs.declared.notes.RuntimeNote.{RuntimeNote}
 use Rattle.ak_turns.specs.declared.notes.Turned.{Turned}
-use Rattle.ak_turns.proofs.ProgramTurns.Completed.{completed, completed_machine, shows_computed, leaving_regs, shows_call, call_frames}
+use Rattle.ak_turns.proofs.ProgramTurns.Completed.{completed, completed_machine, shows_computed, shows_call, call_frames}
 use Rattle.ak_turns.proofs.ProgramTurns.Ended.{shows_vector, shows_denied, refused_low, shows_fault}
+use Rattle.ak_turns.proofs.ProgramTurns.Machines.{stepped_other}
 use Rattle.ak_turns.proofs.ProgramTurns.Showing.{page_in_frame, shows}
 use Rattle.ak_turns.proofs.ProgramTurns.Walks.{IsKnown, known, entered}
 use Rattle.ak_turns.proofs.ProgramTurns.Written.{own_page, low}
@@ -68,6 +69,17 @@ vector_by v false false false e d f some = absurd (cc)
 
 vector_fits : (v : ℕ) → IsTrue (is_vector v) → (v ≢ 14) × (v < 256)
 vector_fits v some = vector_by v (v == 0) (v == 6) (v == 13) refl refl refl some
+
+-- what is cached after a turn whose memory used its translations
+pub cached_after : (mid new : Memory) → mid.uses_cache ≡ true
+    → ((fills : List Fill) → HoldsFills mid.tlb fills → HoldsFills new.tlb (map (fill_by mid.table) (walked_of (in_use mid.uses_cache mid.tlb) (granted_in mid)) ++ fills))
+    → (fills : List Fill) → HoldsFills mid.tlb fills → HoldsFills new.tlb (map (fill_by mid.table) (walked_of mid.tlb (granted_in mid)) ++ fills)
+cached_after mid new uses holds fills held =
+    subst (λ (b : Bool). HoldsFills new.tlb (map (fill_by mid.table) (walked_of (in_use b mid.tlb) (granted_in mid)) ++ fills)) uses (holds fills held)
+
+-- the event of a fault, by whether the access is forbidden, and whether its cluster is in
+abbrev pub chosen_event : ℕ → ℕ → Bool → Bool → Event
+chosen_event count c forbidden inside = if forbidden then Trap count 14 else (if inside then Break count else Miss count c)
 
 -- the turn, with a note of the program
 abbrev pub completed_turn : ProgramNote → Turned
@@ -129,7 +141,7 @@ module _ (layout : Layout) (cpu : Cpu) (memory : Memory) (runs : Runs layout cpu
           new = end;
           machine = machine_after Turn.Done d regs state end
               (completed_machine layout own memory.table memory.encls mid.encls k d.kept granted d.granted d.unwritten state m l regs new.tlb (frame_at mid.encls.frames) (holds_after Turn.Done d) (λ f. refl));
-          others = λ q other. ap (λ b. if b then end.processors cpu.lp.0 else state.processors q) other;
+          others = λ q other. stepped_other state cpu.lp.0 q _ other;
           count = refl;
           turn = turn;
           cause = program_names layout cpu.lp.0 state end None None (state_mode state m) turn;
@@ -153,7 +165,7 @@ module _ (layout : Layout) (cpu : Cpu) (memory : Memory) (runs : Runs layout cpu
           machine = machine_after (Turn.Called b a) d regs' state end
               (completed_machine layout own memory.table memory.encls mid.encls k d.kept granted d.granted d.unwritten state m l regs' new.tlb state.frames (holds_after (Turn.Called b a) d)
               (λ f. m.paging.frames f ∙ sym (same f)));
-          others = λ q other. ap (λ b. if b then end.processors cpu.lp.0 else state.processors q) other;
+          others = λ q other. stepped_other state cpu.lp.0 q _ other;
           count = refl;
           turn = turn;
           cause = program_names layout cpu.lp.0 state end None (Some (Call state.count b a)) (state_mode state m) turn;
@@ -197,8 +209,8 @@ module _ (layout : Layout) (cpu : Cpu) (memory : Memory) (runs : Runs layout cpu
       let m = runs.machine in
       let entries : runs.state.entries ≡ mid.encls.entries = m.paging.entries ∙ sym (ap (λ (e : Enclave). e.entries) d.kept.rest) in
       record {
-        tcs = ap (λ es. is_of_page (entry_at es cpu.tcs.0)) (sym entries) ∙ ap (λ f. is_of_page (entry_at runs.state.entries f)) (sym m.processor.tcs) ∙ of_page _ _ h.tcs;
-        area = ap (λ es. is_of_page (entry_at es cpu.ssa.0)) (sym entries) ∙ ap (λ f. is_of_page (entry_at runs.state.entries f)) (sym m.processor.ssa) ∙ of_page _ _ h.area;
+        tcs = ap (λ es. is_of_page (entry_at es cpu.tcs.0)) (sym entries) ∙ ap (λ f. is_of_page (entry_at runs.state.entries f)) (sym m.processor.tcs) ∙ of_page (entry_at runs.state.entries (runs.state.processors cpu.lp.0).tcs) (tcs_page layout) h.tcs;
+        area = ap (λ es. is_of_page (entry_at es cpu.ssa.0)) (sym entries) ∙ ap (λ f. is_of_page (entry_at runs.state.entries f)) (sym m.processor.ssa) ∙ of_page (entry_at runs.state.entries (runs.state.processors cpu.lp.0).ssa) (ssa_page layout 0) h.area;
         apart = ap (λ f. f == cpu.ssa.0) (sym m.processor.tcs) ∙ ap (λ f. (runs.state.processors cpu.lp.0).tcs == f) (sym m.processor.ssa) ∙ h.apart;
         says = subst (IsTcs 0 false) (ap runs.state.frames m.processor.tcs ∙ m.paging.frames cpu.tcs.0 ∙ sym (same_frames mid turn regs d same cpu.tcs.0)) h.says;
       }
@@ -303,15 +315,19 @@ module _ (layout : Layout) (cpu : Cpu) (memory : Memory) (runs : Runs layout cpu
       faults : is_forbidden layout t ≡ false → ShowsFault layout cpu.lp.0 state t
       faults permitted = shows_fault layout own memory.table memory.encls k (granted_in mid) d.granted state m t permitted d.refused d.line_is
 
+      event_by : (b c : Bool) → is_forbidden layout t ≡ b → is_in state.queue (cluster_at layout t.page.0) ≡ c → fault_event layout state.queue state.count t ≡ chosen_event state.count (cluster_at layout t.page.0) b c
+      event_by b c e d = ap (λ x. chosen_event state.count (cluster_at layout t.page.0) x (is_in state.queue (cluster_at layout t.page.0))) e
+          ∙ ap (chosen_event state.count (cluster_at layout t.page.0) b) d
+
       by_permission : (b c : Bool) → is_forbidden layout t ≡ b → is_in state.queue (cluster_at layout t.page.0) ≡ c
           → TurnsTo layout cpu.lp.0 state (ended_turn (shown_fault layout) (ProgramNote.Faulted t)) left new
       by_permission true c forbidden inside =
-          by_event (Trap state.count 14) (rw forbidden refl)
+          by_event (Trap state.count 14) (event_by true c forbidden inside)
           (λ end saved. denied_turns layout runs.stands.inputs.valid cpu.lp.0 state end (state_mode state m) t
           (shows_denied layout own memory.table memory.encls k (granted_in mid) d.granted state m t forbidden d.line_is) forbidden saved)
       by_permission false true permitted inside =
-          by_event (Break state.count) (rw (permitted, inside) refl)
+          by_event (Break state.count) (event_by false true permitted inside)
           (λ end saved. break_turns layout runs.stands.inputs.valid cpu.lp.0 state end (state_mode state m) t (faults permitted) inside saved)
       by_permission false false permitted out =
-          by_event (Miss state.count (cluster_at layout t.page.0)) (rw (permitted, out) refl)
+          by_event (Miss state.count (cluster_at layout t.page.0)) (event_by false false permitted out)
           (λ end saved. miss_turns layout runs.stands.inputs.valid cpu.lp.0 state end (state_mode state m) t (faults permitted) out saved)

@@ -2,7 +2,7 @@
 -- moment of a trace.
 use Rattle.std.proofs.Common.{◌≡◌, ℕ, ◌<◌, Bool, true, false, List, [], ◌∷◌, length, refl, ap, sym, ◌∙◌, subst}
 use Rattle.std.proofs.lemmas.Bool.{and_parts}
-use Rattle.std.specs.Prelude.{Option, Some, None, ◌&&◌, ◌||◌, not, nat_le, ◌+◌, is_some}
+use Rattle.std.specs.Prelude.{Option, Some, None, ◌&&◌, ◌||◌, not, nat_le, ◌+◌, is_some, if◌then◌else◌}
 use Rattle.ak_core.specs.Layout.{Layout}
 use Rattle.ak_core.specs.Mem.{Access, access_to}
 use Rattle.ak_core.specs.declared.page.Entry.{Entry}
@@ -46,7 +46,7 @@ use Rattle.ak_memory.specs.Granting.{is_walked, NamesPages}
 -- ---- Walks
 
 -- a walk over these entries, by this entry of the page table
-abbrev walk_by : Layout → List Entry → Mapping → ℕ → Kind → Bool
+abbrev pub walk_by : Layout → List Entry → Mapping → ℕ → Kind → Bool
 walk_by layout entries mapping p kind =
     permits layout p kind && (flags_allow mapping.flags kind
     && (is_page_in (held_in (entry_at entries mapping.frame)) p && not (entry_at entries mapping.frame).blocked))
@@ -77,24 +77,30 @@ walks_by layout past cpu table encls state h m t low =
 
 -- ---- What was cached
 
+-- the frame of one
+abbrev pub frame_of : Fill → Frame
+frame_of fill = record { 0 = fill.frame }
+
 -- what has a frame was cached
 pub framed_filled : (fills : List Fill) (t : Access) (f : Frame) → frame_for fills t ≡ Some f → is_filled fills t ≡ true
 framed_filled [] t f e = cc
-framed_filled (fill ∷ fills) t f e = by_test (same_access t fill.access) refl e
+framed_filled (fill ∷ fills) t f e = by_test (same_access t fill.access) e (framed_filled fills t f)
   where
-    by_test : (b : Bool) → same_access t fill.access ≡ b → frame_for (fill ∷ fills) t ≡ Some f → is_filled (fill ∷ fills) t ≡ true
-    by_test true is e = rw is refl
-    by_test false is e = rw is (framed_filled fills t f (rw is at e))
+    by_test : (b : Bool) → (if b then Some (frame_of fill) else frame_for fills t) ≡ Some f → (frame_for fills t ≡ Some f → is_filled fills t ≡ true) → (b || is_filled fills t) ≡ true
+    by_test true e more = refl
+    by_test false e more = more e
 
 -- what was reached is permitted
 reached_permitted : (layout : Layout) (place : ℕ) (past : History) (t : Access) → reached_since layout place past t ≡ true → permits layout t.page.0 t.kind ≡ true
 reached_permitted layout place [] t h = cc
 reached_permitted layout place (pair ∷ past) t h =
-    by_walk (access_walkable layout (pair ∷ past) t) refl (and_parts (nat_le place (length past + 1)) _ h).1
+    by_walk (access_walkable layout (pair ∷ past) t) refl (reached_permitted layout place past t)
+    (and_parts (nat_le place (length past + 1)) (access_walkable layout (pair ∷ past) t || reached_since layout place past t) h).1
   where
-    by_walk : (b : Bool) → access_walkable layout (pair ∷ past) t ≡ b → (b || reached_since layout place past t) ≡ true → permits layout t.page.0 t.kind ≡ true
-    by_walk true e some = (and_parts (permits layout t.page.0 t.kind) _ e).0
-    by_walk false e some = reached_permitted layout place past t some
+    by_walk : (b : Bool) → access_walkable layout (pair ∷ past) t ≡ b → (reached_since layout place past t ≡ true → permits layout t.page.0 t.kind ≡ true)
+        → (b || reached_since layout place past t) ≡ true → permits layout t.page.0 t.kind ≡ true
+    by_walk true e more some = (and_parts (permits layout t.page.0 t.kind) _ e).0
+    by_walk false e more some = more some
 
 -- ---- What is known
 
@@ -116,7 +122,7 @@ entered past lp within = by_place (since past lp) refl within
   where
     by_place : (o : Option ℕ) → since past lp ≡ o → is_some o ≡ true → IsStayOf past lp
     by_place (Some place) e some = record { place = place; is = e }
-    by_place None e some = cc
+    by_place None e some = absurd (cc)
 
 -- it is known where a machine of theirs stands, with the processor inside in the program's mode
 pub known : (layout : Layout) (cpu : Cpu) (table : List Pte) (encls : Enclave) (image : List ℕ) (past : History) (control : Control) (turns : List ProgramTurn) (state : State)

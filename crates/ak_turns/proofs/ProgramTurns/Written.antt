@@ -131,21 +131,19 @@ module _ (layout : Layout) (cpu : Cpu) (table : List Pte) (encls new : Enclave) 
       (f : ℕ) → frame_at new.frames f ≡ frame_at encls.frames f
   call_frame state m flat sees b a regs c f = by_page (is_of_page (entry_at encls.entries f)) refl
     where
-      p : ℕ
-      p = (entry_at encls.entries f).page.0
-
-      by_seen : has_page (entry_at encls.entries f) p ≡ true → p < pages layout → (b : Bool) → is_seen encls.entries table cpu.tlb p ≡ b → frame_at new.frames f ≡ frame_at encls.frames f
-      by_seen has l true seen =
+      by_seen : (p : ℕ) → has_page (entry_at encls.entries f) p ≡ true → p < pages layout → (b : Bool) → is_seen encls.entries table cpu.tlb p ≡ b → frame_at new.frames f ≡ frame_at encls.frames f
+      by_seen p has l true seen =
           let same : c.after.bytes ≡ flat.bytes = keeps state m flat sees (End.Call b a) regs c in
           sym (new_bytes f p has) ∙ c.shows p l seen ∙ ap (λ bytes. page_bytes (record { regs = flat.regs; bytes = bytes }) p) same
           ∙ sym (shows layout cpu table encls k state m flat sees p l seen) ∙ old_bytes f p has
-      by_seen has l false unseen = unwritten_frame f p has (unseen_unwritable encls.entries table cpu.tlb granted p all unseen)
+      by_seen p has l false unseen = unwritten_frame f p has (unseen_unwritable encls.entries table cpu.tlb granted p all unseen)
 
       by_page : (b : Bool) → is_of_page (entry_at encls.entries f) ≡ b → frame_at new.frames f ≡ frame_at encls.frames f
       by_page false e = kept.others f e
       by_page true e =
+          let p = (entry_at encls.entries f).page.0 in
           let has = own_page (entry_at encls.entries f) e in
           elim (cases_lt p (pages layout)) [
-            | inl l ↦ by_seen has l (is_seen encls.entries table cpu.tlb p) refl
+            | inl l ↦ by_seen p has l (is_seen encls.entries table cpu.tlb p) refl
             | inr high ↦ unwritten_frame f p has (low_unwritable layout granted p (low state m flat sees (End.Call b a) regs c) high)
           ]
