@@ -226,17 +226,17 @@ module _ (layout : Layout) (valid : IsValid layout) (control : Control) (flat : 
                 ∙ area_stays layout old new (touched_areas context) areas fits are i low (λ l. absurd (let clash : true ≡ false = sym (there i l) ∙ ap holds (sym is) ∙ gone in cc))
                 ∙ ap old (sym is)
 
-            by_first : Tells p (ssa_page layout 0) → Tells p (ssa_page layout 1) → Tells p (ssa_page layout 2) → new p ≡ old p
-            by_first (inl is) b c = area 0 (omega arith) is.1
-            by_first (inr a) (inl is) c = area 1 (omega arith) is.1
-            by_first (inr a) (inr b) (inl is) = area 2 (omega arith) is.1
-            by_first (inr a) (inr b) (inr c) = others p other (none a.1 b.1 c.1)
-
             none : p ≢ ssa_page layout 0 → p ≢ ssa_page layout 1 → p ≢ ssa_page layout 2 → (i : ℕ) → i < 3 → p ≢ ssa_page layout i
             none a b c zero low = a
             none a b c (suc zero) low = b
             none a b c (suc (suc zero)) low = c
             none a b c (suc (suc (suc i))) low = absurd (omega arith)
+
+            by_first : Tells p (ssa_page layout 0) → Tells p (ssa_page layout 1) → Tells p (ssa_page layout 2) → new p ≡ old p
+            by_first (inl is) b c = area 0 (omega arith) is.1
+            by_first (inr a) (inl is) c = area 1 (omega arith) is.1
+            by_first (inr a) (inr b) (inl is) = area 2 (omega arith) is.1
+            by_first (inr a) (inr b) (inr c) = others p other (none a.1 b.1 c.1)
 
     pub unheld_stays : (refused : Option Access) → StepsTo layout control context regs old new granted refused outcome after → (p : ℕ) → holds p ≡ false → new p ≡ old p
     unheld_stays None steps p gone = let done = steps.works refl in granted_stays done.0 done.1 p gone

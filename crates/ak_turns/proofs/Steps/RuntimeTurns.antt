@@ -72,7 +72,7 @@ module _ (layout : Layout) (cpu : Cpu) (memory : Memory) (r : Runs layout cpu me
   done : StepDone layout before memory.table memory.encls new.frames s.before s.after s.granted s.refused outcome regs
   done = s.done
 
-  its_at : AtStep r.control.now
+  abbrev its_at : AtStep r.control.now
   its_at = at layout cpu memory r s.before done.memory.before_is done.mode
 
   its_may : MayStep layout r.control its_at.context r.stands.bytes.flat cpu.regs (memory_of (λ p. is_seen memory.encls.entries memory.table [] p) s.before)
