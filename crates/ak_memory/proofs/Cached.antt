@@ -1,5 +1,5 @@
 -- What walks cache.
-use Rattle.std.proofs.Common.{◌≡◌, Bool, true, false, ◌&&◌, List, [], ◌∷◌, ◌++◌, drop, length, ◌==◌, refl, sym, ◌∙◌, ap, subst, append_assoc}
+use Rattle.std.proofs.Common.{◌≡◌, ℕ, zero, suc, ◌<◌, Bool, true, false, ◌&&◌, List, [], ◌∷◌, ◌++◌, drop, length, get_or, ◌==◌, refl, sym, ◌∙◌, ap, arith}
 use Rattle.std.proofs.lemmas.Bool.{and_parts, and_from}
 use Rattle.std.proofs.lemmas.List.{reverse-append, map-append}
 use Rattle.std.proofs.lemmas.List.Elements.{filter-append}
@@ -128,9 +128,9 @@ not_true true h = cc
 not_true false h = refl
 
 walk_frame : (o : Option Translation) (w : Bool) (g f : Frame) → is_some o ≡ false → option_or (frame_in o) (then_some w g) ≡ Some f → g ≡ f
-walk_frame (Some x) w g f no is = cc
-walk_frame None true g f no is = cc
-walk_frame None false g f no is = cc
+walk_frame (Some x) w g f away is = cc
+walk_frame None true g f away is = cc
+walk_frame None false g f away is = cc
 
 -- a walk found a spot just where it is not cached
 spot_walked : (entries : List Entry) (table : List Pte) (cached : List Translation) (spot : Spot) → is_spot entries table cached spot ≡ true
@@ -179,9 +179,9 @@ all_filtered P Q T (x ∷ xs) each all =
     filtered_by P T x xs (T x) refl (each x parts.0) (all_filtered P Q T xs each parts.1)
 
 walk_found : (o : Option Translation) (w : Bool) (g : Frame) → is_some (option_or (frame_in o) (then_some w g)) ≡ true → not (is_some o) ≡ true → w ≡ true
-walk_found (Some x) w g is no = cc
-walk_found None true g is no = refl
-walk_found None false g is no = cc
+walk_found (Some x) w g is away = cc
+walk_found None true g is away = refl
+walk_found None false g is away = cc
 
 -- of accesses that are granted, walks find those that are not cached
 pub all_walked : (entries : List Entry) (table : List Pte) (cached : List Translation) (accesses : List Access)
@@ -190,3 +190,19 @@ all_walked entries table cached accesses all =
     all_reversed (is_walked entries table) (filter (λ t. not (is_some (found cached t))) accesses)
     (all_filtered (is_walked entries table) (is_granted entries table cached) (λ t. not (is_some (found cached t))) accesses
     (λ t. walk_found (found cached t) (is_walked entries table t) (pte_at table t.page.0).frame) all)
+
+-- ---- In turn
+
+-- what is cached by one more access, and by what came before
+pub fills_after-append : (spot : Spot) (xs fills : List Fill) → fills_after spot (xs ++ fills) ≡ fills_after spot xs ++ fills
+fills_after-append spot xs fills = by_flag spot.by_walk
+  where
+    by_flag : (b : Bool) → (if b then spot_fill spot ∷ (xs ++ fills) else xs ++ fills) ≡ (if b then spot_fill spot ∷ xs else xs) ++ fills
+    by_flag true = refl
+    by_flag false = refl
+
+-- what all pass, one of them passes
+pub passes_at : (P : Spot → Bool) (spots : List Spot) (i : ℕ) (d : Spot) → list_all P spots ≡ true → i < length spots → P (get_or spots i d) ≡ true
+passes_at P [] i d all within = absurd (omega arith)
+passes_at P (x ∷ spots) zero d all within = (and_parts (P x) (list_all P spots) all).0
+passes_at P (x ∷ spots) (suc i) d all within = passes_at P spots i d (and_parts (P x) (list_all P spots) all).1 (omega arith)

@@ -76,14 +76,14 @@ named_in_use false entries cached named = refl
 -- ---- Accesses that are refused
 
 neither : (o : Option Frame) (w : Bool) (g : Frame) → is_some (option_or o (then_some w g)) ≡ false → (o ≡ None) × (w ≡ false)
-neither (Some h) w g no = cc
-neither None true g no = cc
-neither None false g no = (refl, refl)
+neither (Some h) w g away = cc
+neither None true g away = cc
+neither None false g away = (refl, refl)
 
 -- nothing is cached of a refused access, and no walk finds it
 pub refused_neither : (entries : List Entry) (table : List Pte) (cached : List Translation) (t : Access) → is_granted entries table cached t ≡ false
     → (frame_in (found cached t) ≡ None) × (is_walked entries table t ≡ false)
-refused_neither entries table cached t no = neither (frame_in (found cached t)) (is_walked entries table t) (pte_at table t.page.0).frame no
+refused_neither entries table cached t away = neither (frame_in (found cached t)) (is_walked entries table t) (pte_at table t.page.0).frame away
 
 -- ---- Spots
 
@@ -120,6 +120,13 @@ first_passes P Q (x ∷ spots) spot all is =
     let parts = and_parts (Q x) (list_all Q spots) all in
     first_by P Q x (find P spots) spot (P x) refl parts.0 is (first_passes P Q spots spot parts.1)
 
+-- the first spot of a page is in a frame that holds it
+pub spot_of_page : (entries : List Entry) (table : List Pte) (cached : List Translation) (spots : List Spot) (p : ℕ) (spot : Spot) → NamesPages entries cached
+    → list_all (is_spot entries table cached) spots ≡ true → find (λ s. s.access.page.0 == p) spots ≡ Some spot → has_page (entry_at entries spot.frame.0) p ≡ true
+spot_of_page entries table cached spots p spot named all is =
+    let both = first_passes (λ s. s.access.page.0 == p) (is_spot entries table cached) spots spot all is in
+    subst (λ q. has_page (entry_at entries spot.frame.0) q ≡ true) (eqb-true spot.access.page.0 p both.0) (spot_names entries table cached spot named both.1)
+
 none_by : (b any : Bool) (x : Spot) (o : Option Spot) → (b || any) ≡ true → cond b (Some x) o ≡ None → (any ≡ true → o ≡ None → ⊥) → ⊥
 none_by true any x o some none more = cc
 none_by false any x o some none more = more some none
@@ -155,3 +162,9 @@ all_spots P Q [] each all = refl
 all_spots P Q (x ∷ spots) each all =
     let parts = and_parts (Q x) (list_all Q spots) all in
     ap (λ b. b && list_all P spots) (each x parts.0) ∙ all_spots P Q spots each parts.1
+
+-- each access that was granted is granted still
+pub all_granted : (entries : List Entry) (table : List Pte) (cached : List Translation) (spots : List Spot) → list_all (is_spot entries table cached) spots ≡ true
+    → list_all (is_granted entries table cached) (accesses_in spots) ≡ true
+all_granted entries table cached spots all =
+    all_accesses (is_granted entries table cached) (is_spot entries table cached) spots (λ spot h. ap is_some (spot_granted entries table cached spot h)) all

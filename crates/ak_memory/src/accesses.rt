@@ -1,6 +1,6 @@
 // A turn's accesses to the memory.
 
-use crate::frames::{put_byte, put_bytes, put_page};
+use crate::frames::{bytes_in, put_byte, put_bytes, put_page};
 use crate::memory::Memory;
 use ak_core::{Fault, Kind, Mem, Page};
 
@@ -52,12 +52,12 @@ impl Mem for Memory {
 
     fn page(&self, p: Page) -> &[u8] {
         let frame = self.frame_of(p);
-        self.encls.frame(frame)
+        bytes_in(&self.encls, frame)
     }
 
     fn load(&self, p: Page, offset: u16) -> u8 {
         let frame = self.frame_of(p);
-        self.encls.frame(frame)[offset as usize]
+        bytes_in(&self.encls, frame)[offset as usize]
     }
 
     fn store(&mut self, p: Page, offset: u16, value: u8) {
@@ -72,7 +72,7 @@ impl Mem for Memory {
 
     fn read_page(&self, p: Page, into: &mut [u8]) {
         let frame = self.frame_of(p);
-        into.copy_from_slice(self.encls.frame(frame));
+        into.copy_from_slice(bytes_in(&self.encls, frame));
     }
 
     fn write_page(&mut self, p: Page, from: &[u8]) {

@@ -1,4 +1,4 @@
-// Bytes that are put into frames.
+// The bytes of frames, and bytes that are put into frames.
 ghost use Rattle.std.specs.Prelude.{◌≡◌, ◌<◌, ◌≤◌, ◌+◌, true, length, slice_set};
 ghost use Rattle.ak_core.specs.Mem.{put_at};
 ghost use Rattle.ak_epcm.specs.Entries.{entry_at, is_of_page};
@@ -6,6 +6,15 @@ ghost use Rattle.ak_encls.specs.Enclave.{frame_at};
 
 use ak_core::{Frame, PAGE_SIZE};
 use ak_encls::Encls;
+
+/// The bytes of a frame.
+pub(crate) fn bytes_in(encls: &Encls, f: Frame) -> &[u8]
+    requires { f.0 < length encls.now.entries }
+    ensures bytes { result.now ≡ frame_at encls.now.frames f.0 }
+    ensures whole { length (frame_at encls.now.frames f.0) ≡ PAGE_SIZE }
+{
+    all_bytes(encls.frame(f))
+}
 
 /// Puts a byte into a frame that holds a page of the enclave.
 pub(crate) fn put_byte(encls: &mut Encls, f: Frame, offset: usize, value: u8)
@@ -38,6 +47,15 @@ pub(crate) fn put_page(encls: &mut Encls, f: Frame, from: &[u8])
     ensures frames { encls.new ≡ record encls.old { frames = slice_set encls.old.frames f.0 from.now } }
 {
     set_page(encls.frame_mut(f), from);
+}
+
+/// The bytes of a page.
+#[inline(always)]
+fn all_bytes(page: &[u8; PAGE_SIZE]) -> &[u8]
+    ensures page { result.now ≡ page.now }
+    ensures whole { length page.now ≡ PAGE_SIZE }
+{
+    page
 }
 
 /// Puts a byte into a page.

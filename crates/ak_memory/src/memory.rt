@@ -155,10 +155,7 @@ impl Memory {
         ensures denied { self.new.denied ≡ None }
     {
         self.clear();
-        let answer = self.encls.leaf(m);
-        // No two frames of an EPCM hold one page.
-        let _secs = self.encls.epcm().entry(Frame(0));
-        answer
+        do_leaf(&mut self.encls, m)
     }
 
     /// Makes blank pages, so that so many pages can be written out with no more memory (as `Encls::reserve`). Where memory runs out it
@@ -191,4 +188,21 @@ impl Memory {
         self.touched.clear();
         self.denied = None;
     }
+}
+
+/// Does a leaf, after which no two frames hold one page.
+fn do_leaf(encls: &mut Encls, m: &Move) -> Answer
+    requires leaf { is_leaf m.now ≡ true }
+    requires spare { is_write_out m.now ≡ true → 0 < encls.old.handles.spare }
+    ensures row { (layout : Layout) (state : State) → IsPaging layout encls.old state → result ≡ leaf_row (view_in layout state) m.now }
+    ensures refused { is_done result ≡ false → encls.new ≡ encls.old }
+    ensures done { is_done result ≡ true → (layout : Layout) (state : State) → IsPaging layout encls.old state → IsCounted m.now encls.old.track.cycles
+        → LeadsTo layout state m.now encls.new }
+    ensures rest { KeepsRest encls.old encls.new result }
+    ensures distinct { HasDistinctPages encls.new.entries }
+{
+    let answer = encls.leaf(m);
+    // No two frames of an EPCM hold one page.
+    let _secs = encls.epcm().entry(Frame(0));
+    answer
 }

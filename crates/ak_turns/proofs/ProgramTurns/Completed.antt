@@ -63,12 +63,12 @@ module _ (layout : Layout) (cpu : Cpu) (table : List Pte) (encls new : Enclave) 
   -- what is cached of accesses of the enclave's pages, by the machine's page table
   fills_same : (state : State) → IsMachine layout cpu table encls state → (accesses : List Access) → ((t : Access) → is_among accesses t ≡ true → t.page.0 < all_pages layout)
       → map (walked_fill state) accesses ≡ map (fill_by table) accesses
-  fills_same state m [] low = refl
-  fills_same state m (t ∷ accesses) low =
-      let own : t.page.0 < all_pages layout = low t (ap (λ b. b || is_among accesses t) (access_self t)) in
+  fills_same state m [] each = refl
+  fills_same state m (t ∷ accesses) each =
+      let own : t.page.0 < all_pages layout = each t (ap (λ b. b || is_among accesses t) (access_self t)) in
       let fill : walked_fill state t ≡ fill_by table t = ap (λ (mapping : Mapping). record { access = t; frame = mapping.frame }) (m.mapped t.page.0 own) in
       ap (λ (f : Fill). f ∷ map (walked_fill state) accesses) fill
-      ∙ ap (λ (fs : List Fill). fill_by table t ∷ fs) (fills_same state m accesses (λ u some. low u (or_later (same_access u t) (is_among accesses u) some)))
+      ∙ ap (λ (fs : List Fill). fill_by table t ∷ fs) (fills_same state m accesses (λ u some. each u (or_later (same_access u t) (is_among accesses u) some)))
     where
       or_later : (a b : Bool) → b ≡ true → (a || b) ≡ true
       or_later true b e = refl
@@ -78,9 +78,9 @@ module _ (layout : Layout) (cpu : Cpu) (table : List Pte) (encls new : Enclave) 
   pub completed_machine : (state : State) (m : IsMachine layout cpu table encls state) → AllLow layout granted → (regs : Regs) (tlb : List Translation) (frames : ℕ → List ℕ)
       → ((fills : List Fill) → HoldsFills cpu.tlb fills → HoldsFills tlb (map (fill_by table) walked ++ fills)) → ((f : ℕ) → frames f ≡ frame_at new.frames f)
       → IsMachine layout (record cpu { regs = regs; tlb = tlb }) table new (completed state regs frames)
-  completed_machine state m low regs tlb frames holds read =
+  completed_machine state m all_low regs tlb frames holds read =
       let accesses_low : (t : Access) → is_among walked t ≡ true → t.page.0 < all_pages layout =
-      λ t some. let l : t.page.0 < pages layout = low_among layout granted t low (those.among t some) in omega arith in
+      λ t some. let l : t.page.0 < pages layout = low_among layout granted t all_low (those.among t some) in omega arith in
       let held : HoldsFills tlb (fills state) =
       subst (λ (fs : List Fill). HoldsFills tlb (fs ++ (state.processors cpu.lp.0).fills)) (sym (fills_same state m walked accesses_low)) (holds (state.processors cpu.lp.0).fills m.processor.fills) in
       let processor : IsProcessor (record cpu { regs = regs; tlb = tlb }) (after state regs) = record {

@@ -272,7 +272,7 @@ module _ (layout : Layout) (cpu : Cpu) (memory : Memory) (runs : Runs layout cpu
         let none : state.count ≡ state.count + 0 = omega arith in
         record {
           new = led.state;
-          machine = is_left state led.machine;
+          machine = is_left led.state led.machine;
           others = saved.others;
           count = saved.count ∙ none;
           turn = turn;

@@ -56,7 +56,7 @@ pub has_held : (e : Entry) (p : ℕ) → has_page e p ≡ true → held_in e ≡
 has_held e p has = has_held_by e.valid e.kind e.page.0 p has
 
 -- a frame that holds a page of the enclave has that of its entry
-own_page : (e : Entry) → is_of_page e ≡ true → has_page e e.page.0 ≡ true
+pub own_page : (e : Entry) → is_of_page e ≡ true → has_page e e.page.0 ≡ true
 own_page e of = let same : (e.page.0 == e.page.0) ≡ true = eq-eqb e.page.0 e.page.0 refl in rw (of, same) refl
 
 -- no page that is not the program's is written
