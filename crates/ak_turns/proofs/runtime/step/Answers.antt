@@ -1,3 +1,4 @@
+use Rattle.ak_memory.specs.Spots.{accesses_in}
 use Rattle.ak_turns.proofs.Steps.StepTold.{step_there, has_stepped}
 use Rattle.ak_turns.proofs.runtime.step.Goals as goal
 
@@ -15,6 +16,6 @@ returns-clause-step c =
     let after = c.runtime_turn.new.mem in
     has_stepped c.args.layout.now c.args.cpu.now memory c.requires.runs c.requires.mode memory.distinct given.encls given.table given.tlb given.uses_cache
     c.with_cache.ensures.encls c.with_cache.ensures.table c.with_cache.ensures.uses_cache
-    after.encls after.table after.tlb after.uses_cache c.runtime_turn.ensures.keeps.keeps ?
+    after.encls after.table after.tlb after.uses_cache c.runtime_turn.ensures.keeps.keeps (accesses_in after.touched.items)
     after.denied c.runtime_turn.result c.runtime_turn.new.regs
     c.touches_follow_the_tables.ensures.granted c.touches_follow_the_tables.ensures.unwalked c.runtime_turn.ensures.steps
