@@ -143,7 +143,7 @@ module _ (layout : Layout) (cpu : Cpu) (memory : Memory) (r : Runs layout cpu me
       refused : s.refused ≡ Some t
       refused = outcome_is t e
 
-      same_frames : (f : ℕ) → frame_at new.frames f ≡ frame_at memory.encls.frames f
+      pub same_frames : (f : ℕ) → frame_at new.frames f ≡ frame_at memory.encls.frames f
       same_frames f =
           frames_stay memory.encls.entries memory.encls.frames new.frames s.before s.after done.memory (its_steps.faults t refused).1 f
 
