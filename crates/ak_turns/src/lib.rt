@@ -5,5 +5,6 @@ mod instruction;
 mod leaving;
 mod notes;
 mod program;
+mod runtime;
 
 pub use notes::{ProgramNote, RuntimeNote, Turned};
