@@ -82,7 +82,8 @@ module _ (layout : Layout) (cpu : Cpu) (table : List Pte) (encls new : Enclave) 
       let accesses_low : (t : Access) → is_among walked t ≡ true → t.page.0 < all_pages layout =
       λ t some. let l : t.page.0 < pages layout = low_among layout granted t all_low (those.among t some) in omega arith in
       let held : HoldsFills tlb (fills state) =
-      subst (λ (fs : List Fill). HoldsFills tlb (fs ++ (state.processors cpu.lp.0).fills)) (sym (fills_same state m walked accesses_low)) (holds (state.processors cpu.lp.0).fills m.processor.fills) in
+      subst (λ (fs : List Fill). HoldsFills tlb (fs ++ (state.processors cpu.lp.0).fills)) (sym (fills_same state m walked accesses_low))
+      (holds (state.processors cpu.lp.0).fills m.processor.fills) in
       let processor : IsProcessor (record cpu { regs = regs; tlb = tlb }) (after state regs) = record {
         inside = m.processor.inside;
         regs = refl;
@@ -102,8 +103,7 @@ module _ (layout : Layout) (cpu : Cpu) (table : List Pte) (encls new : Enclave) 
   shows_computed state m regs does flat sees =
       let c = does flat (sym sees.regs ∙ m.processor.regs) (shows layout cpu table encls k state m flat sees) in
       let at = stepped_there state cpu.lp.0 (after state regs) in
-      let l = low layout cpu table encls new k kept granted all unwritten state m flat sees End.Next regs c in
-      (
+      let l = low layout cpu table encls new k kept granted all unwritten state m flat sees End.Next regs c in (
         c.after,
         record {
           ends = ends layout cpu table encls new k kept granted all unwritten state m flat sees End.Next regs c;
@@ -149,8 +149,7 @@ module _ (layout : Layout) (cpu : Cpu) (table : List Pte) (encls new : Enclave) 
       let c = does flat (sym sees.regs ∙ m.processor.regs) (shows layout cpu table encls k state m flat sees) in
       let processor = after state (leaving_regs regs) in
       let at = stepped_there state cpu.lp.0 processor in
-      let l = low layout cpu table encls new k kept granted all unwritten state m flat sees (End.Call b a) regs c in
-      (
+      let l = low layout cpu table encls new k kept granted all unwritten state m flat sees (End.Call b a) regs c in (
         c.after,
         record {
           ends = ends layout cpu table encls new k kept granted all unwritten state m flat sees (End.Call b a) regs c;

@@ -90,7 +90,10 @@ or_swap false false = refl
 
 any_reverse : (f : Access → Bool) (xs : List Access) → list_any f (reverse xs) ≡ list_any f xs
 any_reverse f [] = refl
-any_reverse f (x ∷ xs) = ap (list_any f) (reverse-append (x ∷ []) xs) ∙ list_any-append f (reverse xs) (x ∷ []) ∙ or_swap (list_any f (reverse xs)) (f x) ∙ ap (λ b. f x || b) (any_reverse f xs)
+any_reverse f (x ∷ xs) =
+    ap (list_any f) (reverse-append (x ∷ []) xs)
+    ∙ list_any-append f (reverse xs) (x ∷ [])
+    ∙ or_swap (list_any f (reverse xs)) (f x) ∙ ap (λ b. f x || b) (any_reverse f xs)
 
 none_framed : (o : Option Translation) → frame_in o ≡ None → is_some o ≡ false
 none_framed None e = refl

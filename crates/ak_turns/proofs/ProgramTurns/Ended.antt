@@ -63,7 +63,8 @@ taken_before f (y ∷ xs) rest x t fails some =
     more true b c g some = refl
     more false b c g some = g some
 
-    by_test : (b : Bool) → (is_among (take_while f (xs ++ x ∷ rest)) t ≡ true → is_among xs t ≡ true) → is_among (cond b (y ∷ take_while f (xs ++ x ∷ rest)) []) t ≡ true → is_among (y ∷ xs) t ≡ true
+    by_test : (b : Bool) → (is_among (take_while f (xs ++ x ∷ rest)) t ≡ true → is_among xs t ≡ true)
+        → is_among (cond b (y ∷ take_while f (xs ++ x ∷ rest)) []) t ≡ true → is_among (y ∷ xs) t ≡ true
     by_test true further some = more (same_access t y) (is_among (take_while f (xs ++ x ∷ rest)) t) (is_among xs t) further some
     by_test false further some = cc
 

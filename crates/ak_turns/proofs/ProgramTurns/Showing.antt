@@ -64,7 +64,8 @@ module _ (layout : Layout) (cpu : Cpu) (table : List Pte) (encls : Enclave) (k :
       let permitted : permits layout t.page.0 t.kind ≡ true = granted_permitted t (omega arith) parts.0 in
       rw permitted (none_forbidden granted parts.1 low.1)
 
-  pub all_allowed : (granted : List Access) → list_all (is_granted encls.entries table cpu.tlb) granted ≡ true → AllLow layout granted → list_all (λ t. not (is_forbidden layout t)) granted ≡ true
+  pub all_allowed : (granted : List Access) → list_all (is_granted encls.entries table cpu.tlb) granted ≡ true → AllLow layout granted
+      → list_all (λ t. not (is_forbidden layout t)) granted ≡ true
   all_allowed [] all low = refl
   all_allowed (t ∷ granted) all low =
       let parts = and_parts (is_granted encls.entries table cpu.tlb t) (list_all (is_granted encls.entries table cpu.tlb) granted) all in

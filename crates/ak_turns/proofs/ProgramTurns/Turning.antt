@@ -140,11 +140,12 @@ module _ (layout : Layout) (cpu : Cpu) (memory : Memory) (runs : Runs layout cpu
         let c = d.line_is runs.stands.bytes.flat (sym witness_sees.regs ∙ runs.machine.processor.regs) seen in
         let l = low layout own memory.table memory.encls mid.encls k d.kept granted d.granted d.unwritten runs.state runs.machine runs.stands.bytes.flat witness_sees End.Next regs c in
         let turn = computed_turns layout cpu.lp.0 state end (state_mode state m)
-            (shows_computed layout own memory.table memory.encls mid.encls k d.kept granted d.granted d.unwritten state m regs d.line_is) in
+        (shows_computed layout own memory.table memory.encls mid.encls k d.kept granted d.granted d.unwritten state m regs d.line_is) in
         record {
           new = end;
           machine = machine_after Turn.Done d regs state end
-              (completed_machine layout own memory.table memory.encls mid.encls k d.kept granted d.granted d.unwritten state m l regs new.tlb (frame_at mid.encls.frames) (holds_after Turn.Done d) (λ f. refl));
+              (completed_machine layout own memory.table memory.encls mid.encls k d.kept granted d.granted d.unwritten state m l regs new.tlb
+              (frame_at mid.encls.frames) (holds_after Turn.Done d) (λ f. refl));
           others = λ q other. stepped_other state cpu.lp.0 q _ other;
           count = refl;
           turn = turn;
@@ -163,7 +164,7 @@ module _ (layout : Layout) (cpu : Cpu) (memory : Memory) (runs : Runs layout cpu
         let l = low layout own memory.table memory.encls mid.encls k d.kept granted d.granted d.unwritten runs.state runs.machine runs.stands.bytes.flat witness_sees (End.Call b a) regs c in
         let same = call_frames layout own memory.table memory.encls mid.encls k d.kept granted d.granted d.unwritten runs.state runs.machine runs.stands.bytes.flat witness_sees b a regs d.line_is in
         let turn = call_turns layout cpu.lp.0 state end b a (state_mode state m)
-            (shows_call layout own memory.table memory.encls mid.encls k d.kept granted d.granted d.unwritten state m b a regs d.line_is) in
+        (shows_call layout own memory.table memory.encls mid.encls k d.kept granted d.granted d.unwritten state m b a regs d.line_is) in
         record {
           new = end;
           machine = machine_after (Turn.Called b a) d regs' state end
@@ -213,8 +214,10 @@ module _ (layout : Layout) (cpu : Cpu) (memory : Memory) (runs : Runs layout cpu
       let m = runs.machine in
       let entries : runs.state.entries ≡ mid.encls.entries = m.paging.entries ∙ sym (ap (λ (e : Enclave). e.entries) d.kept.rest) in
       record {
-        tcs = ap (λ es. is_of_page (entry_at es cpu.tcs.0)) (sym entries) ∙ ap (λ f. is_of_page (entry_at runs.state.entries f)) (sym m.processor.tcs) ∙ of_page (entry_at runs.state.entries (runs.state.processors cpu.lp.0).tcs) (tcs_page layout) h.tcs;
-        area = ap (λ es. is_of_page (entry_at es cpu.ssa.0)) (sym entries) ∙ ap (λ f. is_of_page (entry_at runs.state.entries f)) (sym m.processor.ssa) ∙ of_page (entry_at runs.state.entries (runs.state.processors cpu.lp.0).ssa) (ssa_page layout 0) h.area;
+        tcs = ap (λ es. is_of_page (entry_at es cpu.tcs.0)) (sym entries) ∙ ap (λ f. is_of_page (entry_at runs.state.entries f)) (sym m.processor.tcs)
+            ∙ of_page (entry_at runs.state.entries (runs.state.processors cpu.lp.0).tcs) (tcs_page layout) h.tcs;
+        area = ap (λ es. is_of_page (entry_at es cpu.ssa.0)) (sym entries) ∙ ap (λ f. is_of_page (entry_at runs.state.entries f)) (sym m.processor.ssa)
+            ∙ of_page (entry_at runs.state.entries (runs.state.processors cpu.lp.0).ssa) (ssa_page layout 0) h.area;
         apart = ap (λ f. f == cpu.ssa.0) (sym m.processor.tcs) ∙ ap (λ f. (runs.state.processors cpu.lp.0).tcs == f) (sym m.processor.ssa) ∙ h.apart;
         says = subst (IsTcs 0 false) (ap runs.state.frames m.processor.tcs ∙ m.paging.frames cpu.tcs.0 ∙ sym (same_frames mid turn regs d same cpu.tcs.0)) h.says;
       }
@@ -319,7 +322,8 @@ module _ (layout : Layout) (cpu : Cpu) (memory : Memory) (runs : Runs layout cpu
       faults : is_forbidden layout t ≡ false → ShowsFault layout cpu.lp.0 state t
       faults permitted = shows_fault layout own memory.table memory.encls k (granted_in mid) d.granted state m t permitted d.refused d.line_is
 
-      event_by : (b c : Bool) → is_forbidden layout t ≡ b → is_in state.queue (cluster_at layout t.page.0) ≡ c → fault_event layout state.queue state.count t ≡ chosen_event state.count (cluster_at layout t.page.0) b c
+      event_by : (b c : Bool) → is_forbidden layout t ≡ b → is_in state.queue (cluster_at layout t.page.0) ≡ c
+          → fault_event layout state.queue state.count t ≡ chosen_event state.count (cluster_at layout t.page.0) b c
       event_by b c e d = ap (λ x. chosen_event state.count (cluster_at layout t.page.0) x (is_in state.queue (cluster_at layout t.page.0))) e
           ∙ ap (chosen_event state.count (cluster_at layout t.page.0) b) d
 

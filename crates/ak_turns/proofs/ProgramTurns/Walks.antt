@@ -70,7 +70,8 @@ walks_by layout past cpu table encls state h m t low =
     let entry = pte_at table p in
     let mapped : mapping_of entry ≡ pte layout past p = sym (m.mapped p low) ∙ h.mapping.mapped p low in
     let agrees : EntryAgrees layout (entry_at encls.entries entry.frame.0) (held layout past entry.frame.0) (blocked_at past entry.frame.0) =
-    subst (λ (entries : List Entry). EntryAgrees layout (entry_at entries entry.frame.0) (held layout past entry.frame.0) (blocked_at past entry.frame.0)) m.paging.entries (h.entries.entry entry.frame.0) in
+    subst (λ (entries : List Entry). EntryAgrees layout (entry_at entries entry.frame.0) (held layout past entry.frame.0) (blocked_at past entry.frame.0))
+    m.paging.entries (h.entries.entry entry.frame.0) in
     walk_finds-walkable layout past entry.flags (entry_at encls.entries entry.frame.0) entry.frame.0 p t.kind
     (ap (λ (mapping : Mapping). mapping.flags) mapped) (ap (λ (mapping : Mapping). mapping.frame) mapped) agrees
     ∙ sym (walk_same layout past state h p t.kind low) ∙ machine_walk layout cpu table encls state m t low

@@ -131,7 +131,8 @@ module _ (layout : Layout) (cpu : Cpu) (table : List Pte) (encls new : Enclave) 
       (f : ℕ) → frame_at new.frames f ≡ frame_at encls.frames f
   call_frame state m flat sees b a regs c f = by_page (is_of_page (entry_at encls.entries f)) refl
     where
-      by_seen : (p : ℕ) → has_page (entry_at encls.entries f) p ≡ true → p < pages layout → (b : Bool) → is_seen encls.entries table cpu.tlb p ≡ b → frame_at new.frames f ≡ frame_at encls.frames f
+      by_seen : (p : ℕ) → has_page (entry_at encls.entries f) p ≡ true → p < pages layout → (b : Bool) → is_seen encls.entries table cpu.tlb p ≡ b
+          → frame_at new.frames f ≡ frame_at encls.frames f
       by_seen p has l true seen =
           let same : c.after.bytes ≡ flat.bytes = keeps state m flat sees (End.Call b a) regs c in
           sym (new_bytes f p has) ∙ c.shows p l seen ∙ ap (λ bytes. page_bytes (record { regs = flat.regs; bytes = bytes }) p) same

@@ -61,25 +61,33 @@ returns-in-Called-clause-keeps c =
 pub leave-requires-clause-tcs : goal.leave-requires-clause-tcs
 leave-requires-clause-tcs c =
     let d = c.in-Trapped.ensures in
-    let may = may_leave c.args.layout.now c.args.cpu.now c.args.memory.now c.requires.runs c.requires.program c.instruct.new.memory (Turn.Trapped c.in-Trapped.vector) c.instruct.new.regs d d.same_bytes in
+    let may =
+    may_leave c.args.layout.now c.args.cpu.now c.args.memory.now c.requires.runs c.requires.program c.instruct.new.memory
+    (Turn.Trapped c.in-Trapped.vector) c.instruct.new.regs d d.same_bytes in
     may.tcs
 
 pub leave-requires-clause-area : goal.leave-requires-clause-area
 leave-requires-clause-area c =
     let d = c.in-Trapped.ensures in
-    let may = may_leave c.args.layout.now c.args.cpu.now c.args.memory.now c.requires.runs c.requires.program c.instruct.new.memory (Turn.Trapped c.in-Trapped.vector) c.instruct.new.regs d d.same_bytes in
+    let may =
+    may_leave c.args.layout.now c.args.cpu.now c.args.memory.now c.requires.runs c.requires.program c.instruct.new.memory
+    (Turn.Trapped c.in-Trapped.vector) c.instruct.new.regs d d.same_bytes in
     may.area
 
 pub leave-requires-clause-apart : goal.leave-requires-clause-apart
 leave-requires-clause-apart c =
     let d = c.in-Trapped.ensures in
-    let may = may_leave c.args.layout.now c.args.cpu.now c.args.memory.now c.requires.runs c.requires.program c.instruct.new.memory (Turn.Trapped c.in-Trapped.vector) c.instruct.new.regs d d.same_bytes in
+    let may =
+    may_leave c.args.layout.now c.args.cpu.now c.args.memory.now c.requires.runs c.requires.program c.instruct.new.memory
+    (Turn.Trapped c.in-Trapped.vector) c.instruct.new.regs d d.same_bytes in
     may.apart
 
 pub leave-requires-clause-saved : goal.leave-requires-clause-saved
 leave-requires-clause-saved c =
     let d = c.in-Trapped.ensures in
-    let may = may_leave c.args.layout.now c.args.cpu.now c.args.memory.now c.requires.runs c.requires.program c.instruct.new.memory (Turn.Trapped c.in-Trapped.vector) c.instruct.new.regs d d.same_bytes in
+    let may =
+    may_leave c.args.layout.now c.args.cpu.now c.args.memory.now c.requires.runs c.requires.program c.instruct.new.memory
+    (Turn.Trapped c.in-Trapped.vector) c.instruct.new.regs d d.same_bytes in
     few_saved may.says
 
 pub returns-in-Trapped-clause-turn : goal.returns-in-Trapped-clause-turn
@@ -95,31 +103,40 @@ returns-in-Trapped-clause-keeps c =
     let cpu = c.args.cpu.now in
     let e = c.leave.ensures in
     subst (λ (turned : Turned). TurnKeeps turned.exit cpu c.leave.new.cpu c.args.memory.now c.leave.new.memory) (sym c.ended.ensures)
-    (keeps_left c.args.layout.now cpu c.args.memory.now c.requires.runs (Turn.Trapped c.in-Trapped.vector) c.instruct.new.regs c.instruct.new.memory c.leave.new.memory c.in-Trapped.ensures e.table
+    (keeps_left c.args.layout.now cpu c.args.memory.now c.requires.runs (Turn.Trapped c.in-Trapped.vector) c.instruct.new.regs c.instruct.new.memory
+    c.leave.new.memory c.in-Trapped.ensures e.table
     (Exit.Vector c.in-Trapped.vector) c.leave.new.cpu (Why.Vector c.in-Trapped.vector) e.cpu e.leaves e.tlb)
 
 pub leave-requires-in-Faulted-clause-tcs : goal.leave-requires-in-Faulted-clause-tcs
 leave-requires-in-Faulted-clause-tcs c =
     let d = c.in-Faulted.ensures in
-    let may = may_leave c.args.layout.now c.args.cpu.now c.args.memory.now c.requires.runs c.requires.program c.instruct.new.memory (Turn.Faulted c.in-Faulted.access) c.instruct.new.regs d d.same_bytes in
+    let may =
+    may_leave c.args.layout.now c.args.cpu.now c.args.memory.now c.requires.runs c.requires.program c.instruct.new.memory
+    (Turn.Faulted c.in-Faulted.access) c.instruct.new.regs d d.same_bytes in
     may.tcs
 
 pub leave-requires-in-Faulted-clause-area : goal.leave-requires-in-Faulted-clause-area
 leave-requires-in-Faulted-clause-area c =
     let d = c.in-Faulted.ensures in
-    let may = may_leave c.args.layout.now c.args.cpu.now c.args.memory.now c.requires.runs c.requires.program c.instruct.new.memory (Turn.Faulted c.in-Faulted.access) c.instruct.new.regs d d.same_bytes in
+    let may =
+    may_leave c.args.layout.now c.args.cpu.now c.args.memory.now c.requires.runs c.requires.program c.instruct.new.memory
+    (Turn.Faulted c.in-Faulted.access) c.instruct.new.regs d d.same_bytes in
     may.area
 
 pub leave-requires-in-Faulted-clause-apart : goal.leave-requires-in-Faulted-clause-apart
 leave-requires-in-Faulted-clause-apart c =
     let d = c.in-Faulted.ensures in
-    let may = may_leave c.args.layout.now c.args.cpu.now c.args.memory.now c.requires.runs c.requires.program c.instruct.new.memory (Turn.Faulted c.in-Faulted.access) c.instruct.new.regs d d.same_bytes in
+    let may =
+    may_leave c.args.layout.now c.args.cpu.now c.args.memory.now c.requires.runs c.requires.program c.instruct.new.memory
+    (Turn.Faulted c.in-Faulted.access) c.instruct.new.regs d d.same_bytes in
     may.apart
 
 pub leave-requires-in-Faulted-clause-saved : goal.leave-requires-in-Faulted-clause-saved
 leave-requires-in-Faulted-clause-saved c =
     let d = c.in-Faulted.ensures in
-    let may = may_leave c.args.layout.now c.args.cpu.now c.args.memory.now c.requires.runs c.requires.program c.instruct.new.memory (Turn.Faulted c.in-Faulted.access) c.instruct.new.regs d d.same_bytes in
+    let may =
+    may_leave c.args.layout.now c.args.cpu.now c.args.memory.now c.requires.runs c.requires.program c.instruct.new.memory
+    (Turn.Faulted c.in-Faulted.access) c.instruct.new.regs d d.same_bytes in
     few_saved may.says
 
 pub returns-in-Faulted-clause-turn : goal.returns-in-Faulted-clause-turn
@@ -140,5 +157,6 @@ returns-in-Faulted-clause-keeps c =
     let cpu = c.args.cpu.now in
     let e = c.leave-in-Faulted.ensures in
     subst (λ (turned : Turned). TurnKeeps turned.exit cpu c.leave-in-Faulted.new.cpu c.args.memory.now c.leave-in-Faulted.new.memory) (sym c.ended-in-Faulted.ensures)
-    (keeps_left c.args.layout.now cpu c.args.memory.now c.requires.runs (Turn.Faulted c.in-Faulted.access) c.instruct.new.regs c.instruct.new.memory c.leave-in-Faulted.new.memory c.in-Faulted.ensures e.table
+    (keeps_left c.args.layout.now cpu c.args.memory.now c.requires.runs (Turn.Faulted c.in-Faulted.access) c.instruct.new.regs c.instruct.new.memory
+    c.leave-in-Faulted.new.memory c.in-Faulted.ensures e.table
     c.mask.result c.leave-in-Faulted.new.cpu c.fault_of.result e.cpu e.leaves e.tlb)
