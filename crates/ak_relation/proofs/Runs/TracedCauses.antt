@@ -13,7 +13,7 @@ use Rattle.ak_relation.specs.State.MachineState.{State}
 use Rattle.ak_relation.specs.Premises.Works.{CauseIs}
 use Rattle.ak_relation.specs.Program.Turns.{listed, events_by}
 use Rattle.ak_relation.specs.Relation.Does.{with_rest, MoveFollows, at_moment, GoesTo}
-use Rattle.ak_relation.specs.Relation.MoveByMove.{moves_of, IsTraced}
+use Rattle.ak_relation.specs.Relation.MoveByMove.{moves_of}
 use Rattle.ak_relation.specs.Relation.NamedMoves.{AreNamedMoves, NameCauses, IsNamedTrace}
 use Rattle.ak_relation.proofs.Runs.KeptCauses.{cause_same}
 use Rattle.ak_relation.proofs.Runs.TracedMoves.{regroup, traced, one_more, traced_by}
