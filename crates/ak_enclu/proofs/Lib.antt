@@ -1,5 +1,5 @@
 pub mod Fields
 mod Rows
-mod Changes
+pub mod Changes
 mod Entered
-mod Left
+pub mod Left

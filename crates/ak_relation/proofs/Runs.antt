@@ -8,3 +8,4 @@ pub mod BuiltStands
 pub mod TracedMoves
 pub mod KeptCauses
 pub mod NamedMoves
+pub mod TracedCauses

@@ -5,5 +5,6 @@ pub mod Does
 pub mod TurnByTurn
 pub mod Causes
 pub mod MoveByMove
+pub mod NamedMoves
 pub mod Example
 pub mod Witnesses

@@ -6,5 +6,7 @@ mod leaving;
 mod notes;
 mod program;
 mod runtime;
+mod turning;
 
 pub use notes::{ProgramNote, RuntimeNote, Turned};
+pub use turning::turn;

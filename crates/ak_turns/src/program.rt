@@ -1,6 +1,5 @@
 // A turn of the program.
 ghost use Rattle.std.specs.Prelude.{◌≡◌, None, Some, false, true};
-ghost use Rattle.ak_core.specs.declared.registers.Mode;
 ghost use Rattle.ak_pager.specs.Contexts.{step_address};
 ghost use Rattle.ak_relation.specs.State.MachineState.{State};
 ghost use Rattle.ak_turns.specs.Running.{IsRunning, Runs, TurnKeeps, TurnsTo};
@@ -41,7 +40,7 @@ fn ended(exit: Exit, program: ProgramNote) -> Turned
 
 /// After a call the runtime's leave step comes next.
 fn go_to_leave_step(layout: &Layout, regs: &mut Regs)
-    ensures { regs.new ≡ record regs.old { rip = step_address layout.now 32; mode = Mode.Mode.Runtime } }
+    ensures { regs.new ≡ record regs.old { rip = step_address layout.now 32; mode = Mode.Runtime } }
 {
     regs.rip = ak_pager::leave_step(layout);
     regs.mode = Mode::Runtime;
@@ -49,7 +48,7 @@ fn go_to_leave_step(layout: &Layout, regs: &mut Regs)
 
 /// A turn of the program: its next instruction is completed, or an exit ends the turn before it changes anything.
 pub(crate) fn program_turn(layout: &Layout, cpu: &mut Cpu, memory: &mut Memory) -> Turned
-    requires program { cpu.old.regs.mode ≡ Mode.Mode.Program }
+    requires program { cpu.old.regs.mode ≡ Mode.Program }
     requires runs { Runs layout.now cpu.old memory.old }
     ensures turn { (state : State) → IsRunning layout.now cpu.old memory.old state → TurnsTo layout.now cpu.old.lp.0 state result cpu.new memory.new }
     ensures keeps { TurnKeeps result.exit cpu.old cpu.new memory.old memory.new }

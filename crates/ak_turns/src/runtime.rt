@@ -3,7 +3,7 @@ ghost use Rattle.std.specs.Prelude.{◌≡◌, [], None, false, true};
 ghost use Rattle.ak_core.specs.declared.registers.Mode;
 ghost use Rattle.ak_model.specs.Paging.Build.{steps_walk};
 ghost use Rattle.ak_relation.specs.State.MachineState.{State};
-ghost use Rattle.ak_ssa.specs.SavedRegisters.{AreRegs};
+ghost use Rattle.ak_ssa.specs.SavedRegisters.{AreRegs, AreWords};
 ghost use Rattle.ak_track.specs.Steps.{LeavesBy};
 ghost use Rattle.ak_enclu.specs.Passing.{outside_now, Steps};
 ghost use Rattle.ak_turns.specs.Running.{IsRunning, Runs, TurnKeeps, TurnsTo};
@@ -11,7 +11,7 @@ ghost use Rattle.ak_turns.specs.Stepping.{HasStepped};
 
 use crate::leaving::{fault_of, leave};
 use crate::notes::{ProgramNote, RuntimeNote, Turned};
-use ak_core::{Exit, Layout, Mode, Regs};
+use ak_core::{Exit, Layout, Regs};
 use ak_enclu::{Cpu, eexit};
 use ak_memory::Memory;
 use ak_pager::{RtTurn, runtime_turn};
@@ -37,6 +37,7 @@ pub(crate) fn runtime_step(layout: &Layout, cpu: &mut Cpu, memory: &mut Memory) 
             told(Some(Exit::Stopped), RuntimeNote::Dead(cause))
         }
         RtTurn::Faulted(access) => {
+            are_registers(&cpu.regs);
             leave(cpu, memory, fault_of(layout, access));
             told(Some(mask(layout.base())), RuntimeNote::Faulted(access))
         }
@@ -81,3 +82,16 @@ fn told(exit: Option<Exit>, runtime: RuntimeNote) -> Turned
         runtime,
     }
 }
+
+/// The registers of a processor have 64 bits.
+fn are_registers(regs: &Regs)
+    ensures { AreRegs regs.now }
+{
+    let _rip = regs.rip;
+    are_words(&regs.gpr);
+}
+
+/// So has each of these numbers.
+fn are_words(words: &[u64])
+    ensures { AreWords words.now }
+{}

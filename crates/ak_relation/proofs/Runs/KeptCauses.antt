@@ -1,7 +1,7 @@
 -- What turns and moves leave of the cause of death: a turn that goes on keeps it and the saved contexts, and so does a turn of the
 -- program keep it, and each move but a run.
-use Rattle.std.proofs.Common.{◌≡◌, ℕ, zero, suc, List, [], ◌∷◌, ◌++◌, length, refl, ap, sym, ◌∙◌, subst}
-use Rattle.std.specs.Prelude.{true, false, Option, Some, None, ◌==◌, if◌then◌else◌}
+use Rattle.std.proofs.Common.{◌≡◌, ℕ, zero, suc, List, [], ◌∷◌, length, refl, ap, ◌∙◌}
+use Rattle.std.specs.Prelude.{false, Option, Some, None, ◌==◌, if◌then◌else◌}
 use Rattle.ak_core.specs.Layout.{Layout}
 use Rattle.ak_core.specs.Mem.{Access}
 use Rattle.ak_core.specs.declared.event.Event.{Event}

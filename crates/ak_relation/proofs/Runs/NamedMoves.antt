@@ -11,16 +11,15 @@ use Rattle.ak_core.specs.declared.page.Lp.{Lp}
 use Rattle.ak_core.specs.declared.registers.Mode.{Mode}
 use Rattle.ak_model.specs.Paging.Histories.{History}
 use Rattle.ak_model.specs.Paging.Inside.{since, inside}
-use Rattle.ak_model.specs.Control.ControlState.{Program, Cause, Control}
+use Rattle.ak_model.specs.Control.ControlState.{Program, Control}
 use Rattle.ak_model.specs.Control.EventTurn.{due}
-use Rattle.ak_model.specs.Control.OneTurn.{Turn}
-use Rattle.ak_model.specs.Control.Runs.{turn_of, turn}
+use Rattle.ak_model.specs.Control.Runs.{turn_of}
 use Rattle.ak_model.specs.Tapes.ProgramTurns.{ProgramTurn}
 use Rattle.ak_pager.specs.declared.turn.RtTurn.{RtTurn}
 use Rattle.ak_relation.specs.State.MachineState.{State}
 use Rattle.ak_relation.specs.Premises.Works.{CauseIs}
 use Rattle.ak_relation.specs.Program.Turns.{listed, events_by}
-use Rattle.ak_relation.specs.Relation.Stands.{Standing, Stands}
+use Rattle.ak_relation.specs.Relation.Stands.{Stands}
 use Rattle.ak_relation.specs.Relation.Does.{with_rest, Follows, TurnFollows, RunFollows, EndFollows, MoveFollows, turn_to, past_after, at_moment, GoesTo, IsTurn, IsMove}
 use Rattle.ak_relation.specs.Relation.TurnByTurn.{AreTurns}
 use Rattle.ak_relation.specs.Relation.Causes.{NamesCause, NamesMoveCause, is_run}

@@ -19,7 +19,7 @@ use Rattle.ak_relation.proofs.Runs.Composing.{events_by-append}
 use Rattle.ak_relation.proofs.Runs.BuiltStands.{built_stands}
 
 -- one event at most
-one_at_most : (event : Option Event) → length (listed event) ≤ 1
+pub one_at_most : (event : Option Event) → length (listed event) ≤ 1
 one_at_most None = omega arith
 one_at_most (Some event) = omega arith
 
@@ -28,12 +28,12 @@ module _ (layout : Layout) (image : List ℕ) (past : History) (m : Move) (a : A
     (g : GoesTo layout image (MoveFollows layout past m a) (at_moment past r.control r.turns old) ((m, a) ∷ past) new event)
     (all : earlier ++ listed event ≡ events) where
   -- the events so far, and later ones
-  regroup : (later : List Event) → earlier ++ (events_by g.made ++ later) ≡ events ++ later
+  pub regroup : (later : List Event) → earlier ++ (events_by g.made ++ later) ≡ events ++ later
   regroup later =
       sym (append_assoc earlier (events_by g.made) later) ∙ ap (λ es. (earlier ++ es) ++ later) g.told ∙ ap (λ es. es ++ later) all
 
   -- the trace after one more move
-  traced : (later : List Event) → IsLater later g.control.count →
+  pub traced : (later : List Event) → IsLater later g.control.count →
       trace layout (events ++ later) (m ∷ moves_of past) ≡ record { past = (m, a) ∷ past; control = with_rest g.control later }
   traced later ok =
       let f = g.does.traced later ok in
@@ -44,7 +44,7 @@ module _ (layout : Layout) (image : List ℕ) (past : History) (m : Move) (a : A
       ∙ ap (λ control. record { past = (m, a) ∷ past; control = control }) f.changed
 
   -- its turns
-  made_are : (later : List Event) → IsLater later g.control.count → program_turns layout (events ++ later) (m ∷ moves_of past) ≡ g.turns
+  pub made_are : (later : List Event) → IsLater later g.control.count → program_turns layout (events ++ later) (m ∷ moves_of past) ≡ g.turns
   made_are later ok =
       let f = g.does.traced later ok in
       let rest = events_by g.made ++ later in
@@ -55,11 +55,11 @@ module _ (layout : Layout) (image : List ℕ) (past : History) (m : Move) (a : A
       ∙ sym g.does.turns
 
   -- the answers, with no later event
-  answered : answers (trace layout events (m ∷ moves_of past)) ≡ answers_of ((m, a) ∷ past)
+  pub answered : answers (trace layout events (m ∷ moves_of past)) ≡ answers_of ((m, a) ∷ past)
   answered = ap (λ tape. answers (trace layout tape (m ∷ moves_of past))) (sym (append-nil events)) ∙ ap answers (traced [] tt)
 
   -- one more move
-  pub one_more : IsTraced layout image ((m, a) ∷ past) new events
+  abbrev pub one_more : IsTraced layout image ((m, a) ∷ past) new events
   one_more =
       let few = r.few in
       let one = one_at_most event in
@@ -76,7 +76,7 @@ module _ (layout : Layout) (image : List ℕ) (past : History) (m : Move) (a : A
       }
 
 module _ (layout : Layout) (image : List ℕ) (valid : IsValid layout) where
-  traced_by : (past : History) (state : State) (events : List Event) → AreMoves layout image past state events → IsTraced layout image past state events
+  pub traced_by : (past : History) (state : State) (events : List Event) → AreMoves layout image past state events → IsTraced layout image past state events
   traced_by [] state events moved =
       subst (IsTraced layout image [] state) (sym moved.1) (record {
         control = control_at_build layout [];

@@ -1,6 +1,6 @@
 -- What the machine shows of a turn of the program that it ends by an exit: the instruction traps, or an access of it faults. The
 -- accesses before it were cached, or were found by walks in this turn.
-use Rattle.std.specs.Prelude.{◌≡◌, ℕ, true, false, ◌||◌, not, List, ◌++◌, map, take, slice_get, Some}
+use Rattle.std.specs.Prelude.{◌≡◌, ℕ, true, false, ◌||◌, not, List, ◌++◌, take, slice_get, Some}
 use Rattle.std.specs.List.{list_all}
 use Rattle.ak_core.specs.Layout.{Layout}
 use Rattle.ak_core.specs.Mem.{Access}

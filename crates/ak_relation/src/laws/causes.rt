@@ -1,4 +1,5 @@
 // Laws on the cause of death: which turns and moves keep it, and what names it.
+ghost use Rattle.ak_core.specs.Layout.{IsValid};
 ghost use Rattle.ak_core.specs.declared.event.Event.{Event};
 ghost use Rattle.ak_core.specs.declared.moves.Answer.{Answer};
 ghost use Rattle.ak_core.specs.declared.moves.Exit.{Exit};
@@ -6,13 +7,15 @@ ghost use Rattle.ak_core.specs.declared.moves.Move.{Move};
 ghost use Rattle.ak_core.specs.declared.moves.Move.TheVariants.{Run};
 ghost use Rattle.ak_core.specs.declared.page.Lp.{Lp};
 ghost use Rattle.ak_core.specs.declared.registers.Mode.{Mode};
+ghost use Rattle.ak_model.specs.Paging.Histories.{History};
 ghost use Rattle.ak_pager.specs.declared.turn.RtTurn.{RtTurn};
 ghost use Rattle.ak_relation.specs.Program.Turns.{listed};
 ghost use Rattle.ak_relation.specs.Relation.Causes.{NamesCause, NamesMoveCause, is_run};
 ghost use Rattle.ak_relation.specs.Relation.Does.{IsMove, IsTurn};
+ghost use Rattle.ak_relation.specs.Relation.NamedMoves.{AreNamedMoves, IsNamedTrace};
 ghost use Rattle.ak_relation.specs.Relation.TurnByTurn.{AreTurns};
 ghost use Rattle.ak_relation.specs.State.MachineState.{State};
-ghost use Rattle.std.specs.Prelude.{None, Option, Some, false, nat_lt, true, ℕ, ◌++◌, ◌<◌, ◌≡◌};
+ghost use Rattle.std.specs.Prelude.{List, None, Option, Some, false, nat_lt, true, ℕ, ◌++◌, ◌<◌, ◌≡◌};
 ghost use Rattle.ak_core.specs.Layout;
 
 /// A turn that goes on keeps the cause of death, and so does each turn of the program.
@@ -35,4 +38,11 @@ pub fn move_causes()
         → NamesMoveCause layout old new (Run lp all) (Answer.Exit exit) both outcome }
     ensures others { (layout : Layout.Layout) (old new : State) (m : Move) (a : Answer) (event : Option Event)
         → is_run m a ≡ false → IsMove layout old new m a event → NamesMoveCause layout old new m a event RtTurn.Go }
+{}
+
+/// After any moves from the build, each of which names the cause after it by an outcome, the machine stands at a moment of their trace;
+/// and whatever events come later, these outcomes name the causes of the trace, one after each move.
+pub fn causes_are_traced()
+    ensures { (layout : Layout.Layout) (image : List ℕ) (past : History) (state : State) (events : List Event) (outcomes : List RtTurn) → IsValid layout
+        → AreNamedMoves layout image past state events outcomes → IsNamedTrace layout image past state events outcomes }
 {}

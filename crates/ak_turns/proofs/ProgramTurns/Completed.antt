@@ -1,5 +1,5 @@
 -- A turn that completes an instruction, as the definitions want it.
-use Rattle.std.proofs.Common.{◌≡◌, ℕ, ◌+◌, ◌<◌, ◌≤◌, Bool, true, false, List, [], ◌∷◌, ◌++◌, length, map, ◌==◌, refl, ap, sym, ◌∙◌, subst, arith}
+use Rattle.std.proofs.Common.{◌≡◌, ℕ, ◌+◌, ◌<◌, Bool, true, false, List, [], ◌∷◌, ◌++◌, map, refl, ap, sym, ◌∙◌, subst, arith}
 use Rattle.std.specs.Prelude.{◌||◌}
 use Rattle.std.specs.List.{list_all}
 use Rattle.ak_core.specs.Layout.{Layout}
@@ -12,14 +12,13 @@ use Rattle.ak_model.proofs.Flat.ProgramPages.{AllLow}
 use Rattle.ak_model.specs.Flat.FlatRuns.{Flat, End, line}
 use Rattle.ak_model.proofs.Misses.EqualAccesses.{access_self}
 use Rattle.ak_model.specs.Misses.KeptTranslations.{same_access, is_among}
-use Rattle.ak_model.specs.Paging.Holdings.{Mapping, PageFrame}
+use Rattle.ak_model.specs.Paging.Holdings.{Mapping}
 use Rattle.ak_model.specs.Paging.Pages.{pages, all_pages}
-use Rattle.ak_epcm.specs.Entries.{entry_at, has_page}
-use Rattle.ak_pager.specs.Contexts.{IsAtStep, SameButRip, step_address}
-use Rattle.ak_pte.specs.Table.{pte_at}
+use Rattle.ak_epcm.specs.Entries.{entry_at}
+use Rattle.ak_pager.specs.Contexts.{step_address}
 use Rattle.ak_pte.specs.declared.table.Pte.{Pte}
-use Rattle.ak_relation.specs.Premises.CallingOut.{CallsOut, ShowsCall, walked_fill}
-use Rattle.ak_relation.specs.Premises.Computing.{Computes, ShowsComputed}
+use Rattle.ak_relation.specs.Premises.CallingOut.{ShowsCall, walked_fill}
+use Rattle.ak_relation.specs.Premises.Computing.{ShowsComputed}
 use Rattle.ak_relation.specs.Program.Reaching.{is_filled}
 use Rattle.ak_relation.specs.Program.Seeing.{Sees}
 use Rattle.ak_relation.specs.State.MachineState.{State, Processor}
@@ -63,12 +62,12 @@ module _ (layout : Layout) (cpu : Cpu) (table : List Pte) (encls new : Enclave) 
   -- what is cached of accesses of the enclave's pages, by the machine's page table
   fills_same : (state : State) → IsMachine layout cpu table encls state → (accesses : List Access) → ((t : Access) → is_among accesses t ≡ true → t.page.0 < all_pages layout)
       → map (walked_fill state) accesses ≡ map (fill_by table) accesses
-  fills_same state m [] low = refl
-  fills_same state m (t ∷ accesses) low =
-      let own : t.page.0 < all_pages layout = low t (ap (λ b. b || is_among accesses t) (access_self t)) in
+  fills_same state m [] each = refl
+  fills_same state m (t ∷ accesses) each =
+      let own : t.page.0 < all_pages layout = each t (ap (λ b. b || is_among accesses t) (access_self t)) in
       let fill : walked_fill state t ≡ fill_by table t = ap (λ (mapping : Mapping). record { access = t; frame = mapping.frame }) (m.mapped t.page.0 own) in
       ap (λ (f : Fill). f ∷ map (walked_fill state) accesses) fill
-      ∙ ap (λ (fs : List Fill). fill_by table t ∷ fs) (fills_same state m accesses (λ u some. low u (or_later (same_access u t) (is_among accesses u) some)))
+      ∙ ap (λ (fs : List Fill). fill_by table t ∷ fs) (fills_same state m accesses (λ u some. each u (or_later (same_access u t) (is_among accesses u) some)))
     where
       or_later : (a b : Bool) → b ≡ true → (a || b) ≡ true
       or_later true b e = refl
@@ -78,11 +77,12 @@ module _ (layout : Layout) (cpu : Cpu) (table : List Pte) (encls new : Enclave) 
   pub completed_machine : (state : State) (m : IsMachine layout cpu table encls state) → AllLow layout granted → (regs : Regs) (tlb : List Translation) (frames : ℕ → List ℕ)
       → ((fills : List Fill) → HoldsFills cpu.tlb fills → HoldsFills tlb (map (fill_by table) walked ++ fills)) → ((f : ℕ) → frames f ≡ frame_at new.frames f)
       → IsMachine layout (record cpu { regs = regs; tlb = tlb }) table new (completed state regs frames)
-  completed_machine state m low regs tlb frames holds read =
+  completed_machine state m all_low regs tlb frames holds read =
       let accesses_low : (t : Access) → is_among walked t ≡ true → t.page.0 < all_pages layout =
-      λ t some. let l : t.page.0 < pages layout = low_among layout granted t low (those.among t some) in omega arith in
+      λ t some. let l : t.page.0 < pages layout = low_among layout granted t all_low (those.among t some) in omega arith in
       let held : HoldsFills tlb (fills state) =
-      subst (λ (fs : List Fill). HoldsFills tlb (fs ++ (state.processors cpu.lp.0).fills)) (sym (fills_same state m walked accesses_low)) (holds (state.processors cpu.lp.0).fills m.processor.fills) in
+      subst (λ (fs : List Fill). HoldsFills tlb (fs ++ (state.processors cpu.lp.0).fills)) (sym (fills_same state m walked accesses_low))
+      (holds (state.processors cpu.lp.0).fills m.processor.fills) in
       let processor : IsProcessor (record cpu { regs = regs; tlb = tlb }) (after state regs) = record {
         inside = m.processor.inside;
         regs = refl;
@@ -102,8 +102,7 @@ module _ (layout : Layout) (cpu : Cpu) (table : List Pte) (encls new : Enclave) 
   shows_computed state m regs does flat sees =
       let c = does flat (sym sees.regs ∙ m.processor.regs) (shows layout cpu table encls k state m flat sees) in
       let at = stepped_there state cpu.lp.0 (after state regs) in
-      let l = low layout cpu table encls new k kept granted all unwritten state m flat sees End.Next regs c in
-      (
+      let l = low layout cpu table encls new k kept granted all unwritten state m flat sees End.Next regs c in (
         c.after,
         record {
           ends = ends layout cpu table encls new k kept granted all unwritten state m flat sees End.Next regs c;
@@ -149,8 +148,7 @@ module _ (layout : Layout) (cpu : Cpu) (table : List Pte) (encls new : Enclave) 
       let c = does flat (sym sees.regs ∙ m.processor.regs) (shows layout cpu table encls k state m flat sees) in
       let processor = after state (leaving_regs regs) in
       let at = stepped_there state cpu.lp.0 processor in
-      let l = low layout cpu table encls new k kept granted all unwritten state m flat sees (End.Call b a) regs c in
-      (
+      let l = low layout cpu table encls new k kept granted all unwritten state m flat sees (End.Call b a) regs c in (
         c.after,
         record {
           ends = ends layout cpu table encls new k kept granted all unwritten state m flat sees (End.Call b a) regs c;

@@ -1,24 +1,23 @@
 -- A turn that an exit ends, as the definitions want it: the instruction traps, or an access of it faults.
-use Rattle.std.proofs.Common.{◌≡◌, ℕ, ◌+◌, ◌<◌, Bool, true, false, List, [], ◌∷◌, ◌++◌, length, take, refl, ap, sym, ◌∙◌, subst, arith}
+use Rattle.std.proofs.Common.{◌≡◌, ℕ, ◌<◌, Bool, true, false, List, [], ◌∷◌, ◌++◌, length, take, refl, ap, sym, ◌∙◌, subst, arith}
 use Rattle.std.proofs.Math.Seq.{take-append_seam}
 use Rattle.std.proofs.lemmas.Bool.{and_parts}
 use Rattle.std.proofs.lemmas.List.Folds.{list_any-append}
 use Rattle.std.proofs.lemmas.List.Sums.{take_while-cons}
-use Rattle.std.specs.Prelude.{Option, Some, None, is_some, ◌&&◌, ◌||◌, not, cond, slice_get, take_while, if◌then◌else◌}
+use Rattle.std.specs.Prelude.{Some, None, is_some, ◌&&◌, ◌||◌, not, cond, slice_get, take_while, if◌then◌else◌}
 use Rattle.std.specs.List.{list_all, list_any}
 use Rattle.ak_core.specs.Layout.{Layout}
 use Rattle.ak_core.specs.Mem.{Access}
 use Rattle.ak_exec.specs.Turns.{Shows, Raises, Refuses}
 use Rattle.ak_model.proofs.Flat.ProgramPages.{AllLow, line_low}
 use Rattle.ak_model.proofs.Misses.KeptBySet.{kept_same}
-use Rattle.ak_model.specs.Flat.FlatRuns.{Flat, End, line, ending, is_forbidden}
+use Rattle.ak_model.specs.Flat.FlatRuns.{Flat, End, line, is_forbidden}
 use Rattle.ak_model.specs.Misses.KeptTranslations.{same_access, is_among, is_kept}
 use Rattle.ak_model.specs.Misses.Reached.{permitted_accesses}
-use Rattle.ak_model.specs.Paging.Pages.{pages, all_pages}
+use Rattle.ak_model.specs.Paging.Pages.{pages}
 use Rattle.ak_pte.specs.declared.table.Pte.{Pte}
 use Rattle.ak_relation.proofs.Exits.WalkedReached.{among_all}
-use Rattle.ak_relation.specs.Premises.EnterRows.{walk_in}
-use Rattle.ak_relation.specs.Premises.Faulting.{Traps, Faults, ShowsTrap, ShowsFault}
+use Rattle.ak_relation.specs.Premises.Faulting.{ShowsTrap, ShowsFault}
 use Rattle.ak_relation.specs.Program.Seeing.{Sees}
 use Rattle.ak_relation.specs.State.MachineState.{State}
 use Rattle.ak_tlb.proofs.Counted.{few_less}
@@ -63,7 +62,8 @@ taken_before f (y ∷ xs) rest x t fails some =
     more true b c g some = refl
     more false b c g some = g some
 
-    by_test : (b : Bool) → (is_among (take_while f (xs ++ x ∷ rest)) t ≡ true → is_among xs t ≡ true) → is_among (cond b (y ∷ take_while f (xs ++ x ∷ rest)) []) t ≡ true → is_among (y ∷ xs) t ≡ true
+    by_test : (b : Bool) → (is_among (take_while f (xs ++ x ∷ rest)) t ≡ true → is_among xs t ≡ true)
+        → is_among (cond b (y ∷ take_while f (xs ++ x ∷ rest)) []) t ≡ true → is_among (y ∷ xs) t ≡ true
     by_test true further some = more (same_access t y) (is_among (take_while f (xs ++ x ∷ rest)) t) (is_among xs t) further some
     by_test false further some = cc
 
@@ -100,8 +100,8 @@ unkept : (tlb : List Translation) (fills : List Fill) (granted : List Access) (t
 unkept tlb fills granted t holds none apart = by_test (is_kept (granted ++ accesses_of fills) t) refl
   where
     right_of : (a b : Bool) → (a || b) ≡ true → a ≡ false → b ≡ true
-    right_of true b some no = cc
-    right_of false b some no = some
+    right_of true b some other = cc
+    right_of false b some other = some
 
     both : (a b : Bool) → a ≡ true → b ≡ true → (a && b) ≡ true
     both true b e d = d

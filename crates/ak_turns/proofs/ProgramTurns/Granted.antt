@@ -1,5 +1,5 @@
 -- Accesses that were granted: each was cached, or is found by a walk; and no page was written that is not held.
-use Rattle.std.proofs.Common.{◌≡◌, ℕ, Bool, true, false, List, [], ◌∷◌, refl, ap, sym, ◌∙◌, subst, inl, inr}
+use Rattle.std.proofs.Common.{◌≡◌, ℕ, Bool, true, false, List, [], ◌∷◌, refl, ◌∙◌, subst, inl, inr}
 use Rattle.std.proofs.lemmas.Bool.{and_parts, eqb-true}
 use Rattle.std.specs.Prelude.{◌⊎◌, Option, Some, None, is_some, ◌||◌, ◌&&◌, ◌==◌}
 use Rattle.std.specs.Bool.{then_some}
@@ -63,18 +63,23 @@ module _ (entries : List Entry) (table : List Pte) (cached : List Translation) w
   -- ---- Pages that are not
 
   -- a page that is not held was not touched for writing
-  pub unseen_unwritable : (granted : List Access) (p : ℕ) → list_all (is_granted entries table cached) granted ≡ true → is_seen entries table cached p ≡ false → is_writable granted p ≡ false
+  pub unseen_unwritable : (granted : List Access) (p : ℕ) → list_all (is_granted entries table cached) granted ≡ true
+      → is_seen entries table cached p ≡ false → is_writable granted p ≡ false
   unseen_unwritable [] p all unseen = refl
   unseen_unwritable (t ∷ granted) p all unseen =
-      let parts = and_parts (is_granted entries table cached t) (list_all (is_granted entries table cached) granted) all in by_page (t.page.0 == p) refl parts.0 (unseen_unwritable granted p parts.1 unseen)
+      let parts = and_parts (is_granted entries table cached t) (list_all (is_granted entries table cached) granted) all in
+      by_page (t.page.0 == p) refl parts.0 (unseen_unwritable granted p parts.1 unseen)
     where
       by_page : (b : Bool) → (t.page.0 == p) ≡ b → is_granted entries table cached t ≡ true → is_writable granted p ≡ false → ((b && is_write t.kind) || is_writable granted p) ≡ false
       by_page true e own rest =
-          absurd (let seen : is_seen entries table cached p ≡ true = subst (λ (q : ℕ). is_seen entries table cached q ≡ true) (eqb-true t.page.0 p e) (granted_seen entries table cached t own) in cc)
+          absurd (let seen : is_seen entries table cached p ≡ true =
+          subst (λ (q : ℕ). is_seen entries table cached q ≡ true) (eqb-true t.page.0 p e) (granted_seen entries table cached t own) in
+          cc)
       by_page false e own rest = rest
 
   -- none of the accesses is of such a page
-  pub unseen_apart : (granted : List Access) (t : Access) → list_all (is_granted entries table cached) granted ≡ true → is_seen entries table cached t.page.0 ≡ false → is_among granted t ≡ false
+  pub unseen_apart : (granted : List Access) (t : Access) → list_all (is_granted entries table cached) granted ≡ true
+      → is_seen entries table cached t.page.0 ≡ false → is_among granted t ≡ false
   unseen_apart granted t all unseen = by_test (is_among granted t) refl
     where
       by_test : (b : Bool) → is_among granted t ≡ b → is_among granted t ≡ false

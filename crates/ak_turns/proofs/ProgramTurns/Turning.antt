@@ -3,7 +3,7 @@ use Rattle.std.proofs.Common.{◌≡◌, ◌≢◌, ℕ, ◌+◌, ◌<◌, ◌�
 use Rattle.std.proofs.lemmas.Bool.{and_parts}
 use Rattle.std.proofs.lemmas.Bool.Decides.{nat_tests}
 use Rattle.std.specs.Prelude.{Option, Some, None, IsTrue, ◌||◌, ◌++◌, map}
-use Rattle.ak_core.specs.Layout.{Layout, IsValid}
+use Rattle.ak_core.specs.Layout.{Layout}
 use Rattle.ak_core.specs.Mem.{Access}
 use Rattle.ak_core.specs.declared.event.Event.{Event}
 use Rattle.ak_core.specs.declared.event.Event.TheVariants.{Break, Call, Miss, Trap}
@@ -11,15 +11,14 @@ use Rattle.ak_core.specs.declared.moves.Exit.{Exit}
 use Rattle.ak_core.specs.declared.page.Entry.{Entry}
 use Rattle.ak_core.specs.declared.registers.Mode.{Mode}
 use Rattle.ak_core.specs.declared.registers.Regs.{Regs}
-use Rattle.ak_exec.specs.Turns.{Shows, Completes, Raises, Refuses, is_vector}
+use Rattle.ak_exec.specs.Turns.{is_vector}
 use Rattle.ak_exec.specs.declared.turn.Turn.{Turn}
 use Rattle.ak_model.specs.Clusters.Queue.{is_in}
 use Rattle.ak_model.specs.Control.RuntimeTurn.{shown_fault}
-use Rattle.ak_model.specs.Flat.FlatRuns.{Flat, End, line, is_forbidden}
-use Rattle.ak_model.specs.Paging.Pages.{pages, all_pages, cluster_at, ssa_page, tcs_page}
+use Rattle.ak_model.specs.Flat.FlatRuns.{End, is_forbidden}
+use Rattle.ak_model.specs.Paging.Pages.{all_pages, cluster_at, ssa_page, tcs_page}
 use Rattle.ak_epcm.specs.Entries.{entry_at, is_of_page, has_page}
 use Rattle.ak_pager.specs.Contexts.{step_address}
-use Rattle.ak_pager.specs.declared.turn.RtTurn.{RtTurn}
 use Rattle.ak_pte.specs.declared.table.Pte.{Pte}
 use Rattle.ak_relation.proofs.Exits.ExitTurns.{break_turns, miss_turns, denied_turns, vector_turns}
 use Rattle.ak_relation.proofs.Exits.HeldFrames.{program_frames}
@@ -33,11 +32,9 @@ use Rattle.ak_relation.specs.Premises.Saving.{Saves}
 use Rattle.ak_relation.specs.Program.Seeing.{Sees}
 use Rattle.ak_relation.specs.Relation.Does.{IsTurn}
 use Rattle.ak_relation.specs.Relation.HeldFrames.{HoldsFrames}
-use Rattle.ak_relation.specs.State.MachineState.{State, Processor}
-use Rattle.ak_relation.specs.State.Tables.{FramesStand}
+use Rattle.ak_relation.specs.State.MachineState.{State}
 use Rattle.ak_ssa.specs.FramesFit.{CauseFits}
 use Rattle.ak_ssa.specs.SavedFrames.{SavedCause, ByPage, ByVector, why_of}
-use Rattle.ak_ssa.specs.SavedRegisters.{AreRegs}
 use Rattle.ak_ssa.specs.declared.cause.Why.{Why}
 use Rattle.ak_tlb.specs.Fills.{Fill, HoldsFills}
 use Rattle.ak_encls.specs.Enclave.{Enclave, frame_at}
@@ -46,7 +43,7 @@ use Rattle.ak_enclu.specs.Machines.{IsMachine, LeadsToWhere}
 use Rattle.ak_enclu.specs.Passing.{outside_now, ExitsTo}
 use Rattle.ak_enclu.specs.TcsBytes.{saved_of, refuses}
 use Rattle.ak_enclu.specs.declared.cpu.Cpu.{Cpu}
-use Rattle.ak_memory.specs.Granting.{is_granted, in_use, walked_of, fill_by}
+use Rattle.ak_memory.specs.Granting.{in_use, walked_of, fill_by}
 use Rattle.ak_memory.specs.declared.memory.Memory.{Memory}
 use Rattle.ak_turns.specs.Instructing.{memory_bytes, granted_in, Instructs}
 use Rattle.ak_turns.specs.Running.{IsRunning, Runs, TurnsTo, event_of, fault_event}
@@ -69,6 +66,10 @@ vector_by v false false false e d f some = absurd (cc)
 
 vector_fits : (v : ℕ) → IsTrue (is_vector v) → (v ≢ 14) × (v < 256)
 vector_fits v some = vector_by v (v == 0) (v == 6) (v == 13) refl refl refl some
+
+-- a TCS that says that nothing is saved says that few are
+pub few_saved : {bytes : List ℕ} → IsTcs 0 false bytes → saved_of bytes ≤ 2
+few_saved {bytes} says = let none : saved_of bytes ≡ 0 = says.saved_is in omega arith
 
 -- what is cached after a turn whose memory used its translations
 pub cached_after : (mid new : Memory) → mid.uses_cache ≡ true
@@ -136,11 +137,12 @@ module _ (layout : Layout) (cpu : Cpu) (memory : Memory) (runs : Runs layout cpu
         let c = d.line_is runs.stands.bytes.flat (sym witness_sees.regs ∙ runs.machine.processor.regs) seen in
         let l = low layout own memory.table memory.encls mid.encls k d.kept granted d.granted d.unwritten runs.state runs.machine runs.stands.bytes.flat witness_sees End.Next regs c in
         let turn = computed_turns layout cpu.lp.0 state end (state_mode state m)
-            (shows_computed layout own memory.table memory.encls mid.encls k d.kept granted d.granted d.unwritten state m regs d.line_is) in
+        (shows_computed layout own memory.table memory.encls mid.encls k d.kept granted d.granted d.unwritten state m regs d.line_is) in
         record {
           new = end;
           machine = machine_after Turn.Done d regs state end
-              (completed_machine layout own memory.table memory.encls mid.encls k d.kept granted d.granted d.unwritten state m l regs new.tlb (frame_at mid.encls.frames) (holds_after Turn.Done d) (λ f. refl));
+              (completed_machine layout own memory.table memory.encls mid.encls k d.kept granted d.granted d.unwritten state m l regs new.tlb
+              (frame_at mid.encls.frames) (holds_after Turn.Done d) (λ f. refl));
           others = λ q other. stepped_other state cpu.lp.0 q _ other;
           count = refl;
           turn = turn;
@@ -159,7 +161,7 @@ module _ (layout : Layout) (cpu : Cpu) (memory : Memory) (runs : Runs layout cpu
         let l = low layout own memory.table memory.encls mid.encls k d.kept granted d.granted d.unwritten runs.state runs.machine runs.stands.bytes.flat witness_sees (End.Call b a) regs c in
         let same = call_frames layout own memory.table memory.encls mid.encls k d.kept granted d.granted d.unwritten runs.state runs.machine runs.stands.bytes.flat witness_sees b a regs d.line_is in
         let turn = call_turns layout cpu.lp.0 state end b a (state_mode state m)
-            (shows_call layout own memory.table memory.encls mid.encls k d.kept granted d.granted d.unwritten state m b a regs d.line_is) in
+        (shows_call layout own memory.table memory.encls mid.encls k d.kept granted d.granted d.unwritten state m b a regs d.line_is) in
         record {
           new = end;
           machine = machine_after (Turn.Called b a) d regs' state end
@@ -209,8 +211,10 @@ module _ (layout : Layout) (cpu : Cpu) (memory : Memory) (runs : Runs layout cpu
       let m = runs.machine in
       let entries : runs.state.entries ≡ mid.encls.entries = m.paging.entries ∙ sym (ap (λ (e : Enclave). e.entries) d.kept.rest) in
       record {
-        tcs = ap (λ es. is_of_page (entry_at es cpu.tcs.0)) (sym entries) ∙ ap (λ f. is_of_page (entry_at runs.state.entries f)) (sym m.processor.tcs) ∙ of_page (entry_at runs.state.entries (runs.state.processors cpu.lp.0).tcs) (tcs_page layout) h.tcs;
-        area = ap (λ es. is_of_page (entry_at es cpu.ssa.0)) (sym entries) ∙ ap (λ f. is_of_page (entry_at runs.state.entries f)) (sym m.processor.ssa) ∙ of_page (entry_at runs.state.entries (runs.state.processors cpu.lp.0).ssa) (ssa_page layout 0) h.area;
+        tcs = ap (λ es. is_of_page (entry_at es cpu.tcs.0)) (sym entries) ∙ ap (λ f. is_of_page (entry_at runs.state.entries f)) (sym m.processor.tcs)
+            ∙ of_page (entry_at runs.state.entries (runs.state.processors cpu.lp.0).tcs) (tcs_page layout) h.tcs;
+        area = ap (λ es. is_of_page (entry_at es cpu.ssa.0)) (sym entries) ∙ ap (λ f. is_of_page (entry_at runs.state.entries f)) (sym m.processor.ssa)
+            ∙ of_page (entry_at runs.state.entries (runs.state.processors cpu.lp.0).ssa) (ssa_page layout 0) h.area;
         apart = ap (λ f. f == cpu.ssa.0) (sym m.processor.tcs) ∙ ap (λ f. (runs.state.processors cpu.lp.0).tcs == f) (sym m.processor.ssa) ∙ h.apart;
         says = subst (IsTcs 0 false) (ap runs.state.frames m.processor.tcs ∙ m.paging.frames cpu.tcs.0 ∙ sym (same_frames mid turn regs d same cpu.tcs.0)) h.says;
       }
@@ -272,7 +276,7 @@ module _ (layout : Layout) (cpu : Cpu) (memory : Memory) (runs : Runs layout cpu
         let none : state.count ≡ state.count + 0 = omega arith in
         record {
           new = led.state;
-          machine = is_left state led.machine;
+          machine = is_left led.state led.machine;
           others = saved.others;
           count = saved.count ∙ none;
           turn = turn;
@@ -315,7 +319,8 @@ module _ (layout : Layout) (cpu : Cpu) (memory : Memory) (runs : Runs layout cpu
       faults : is_forbidden layout t ≡ false → ShowsFault layout cpu.lp.0 state t
       faults permitted = shows_fault layout own memory.table memory.encls k (granted_in mid) d.granted state m t permitted d.refused d.line_is
 
-      event_by : (b c : Bool) → is_forbidden layout t ≡ b → is_in state.queue (cluster_at layout t.page.0) ≡ c → fault_event layout state.queue state.count t ≡ chosen_event state.count (cluster_at layout t.page.0) b c
+      event_by : (b c : Bool) → is_forbidden layout t ≡ b → is_in state.queue (cluster_at layout t.page.0) ≡ c
+          → fault_event layout state.queue state.count t ≡ chosen_event state.count (cluster_at layout t.page.0) b c
       event_by b c e d = ap (λ x. chosen_event state.count (cluster_at layout t.page.0) x (is_in state.queue (cluster_at layout t.page.0))) e
           ∙ ap (chosen_event state.count (cluster_at layout t.page.0) b) d
 

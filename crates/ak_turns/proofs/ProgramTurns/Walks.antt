@@ -4,7 +4,7 @@ use Rattle.std.proofs.Common.{◌≡◌, ℕ, ◌<◌, Bool, true, false, List, 
 use Rattle.std.proofs.lemmas.Bool.{and_parts}
 use Rattle.std.specs.Prelude.{Option, Some, None, ◌&&◌, ◌||◌, not, nat_le, ◌+◌, is_some, if◌then◌else◌}
 use Rattle.ak_core.specs.Layout.{Layout}
-use Rattle.ak_core.specs.Mem.{Access, access_to}
+use Rattle.ak_core.specs.Mem.{Access}
 use Rattle.ak_core.specs.declared.page.Entry.{Entry}
 use Rattle.ak_core.specs.declared.page.Frame.{Frame}
 use Rattle.ak_core.specs.declared.page.Kind.{Kind}
@@ -27,15 +27,14 @@ use Rattle.ak_relation.proofs.Entering.EnterAnswers.{walk_same}
 use Rattle.ak_relation.proofs.Program.Completing.{filled_reached}
 use Rattle.ak_relation.proofs.Program.Seen.{its_stay}
 use Rattle.ak_relation.specs.Premises.EnterRows.{walk_in}
-use Rattle.ak_relation.specs.Program.Reaching.{AreReached, is_filled}
+use Rattle.ak_relation.specs.Program.Reaching.{is_filled}
 use Rattle.ak_relation.specs.Relation.Does.{at_moment}
 use Rattle.ak_relation.specs.Relation.Stands.{Stands}
 use Rattle.ak_relation.specs.State.MachineState.{State}
 use Rattle.ak_relation.specs.State.MachineView.{held_in}
 use Rattle.ak_relation.specs.State.Tables.{TablesStand}
-use Rattle.ak_tlb.specs.Fills.{Fill, frame_for, HoldsFills}
+use Rattle.ak_tlb.specs.Fills.{Fill, frame_for}
 use Rattle.ak_tlb.specs.Translations.{found, frame_in}
-use Rattle.ak_tlb.specs.declared.translation.Translation.{Translation}
 use Rattle.ak_walk.proofs.Bridge.{walk_finds-walkable}
 use Rattle.ak_walk.specs.Agrees.{EntryAgrees}
 use Rattle.ak_encls.specs.Enclave.{Enclave, frame_at}
@@ -70,7 +69,8 @@ walks_by layout past cpu table encls state h m t low =
     let entry = pte_at table p in
     let mapped : mapping_of entry ≡ pte layout past p = sym (m.mapped p low) ∙ h.mapping.mapped p low in
     let agrees : EntryAgrees layout (entry_at encls.entries entry.frame.0) (held layout past entry.frame.0) (blocked_at past entry.frame.0) =
-    subst (λ (entries : List Entry). EntryAgrees layout (entry_at entries entry.frame.0) (held layout past entry.frame.0) (blocked_at past entry.frame.0)) m.paging.entries (h.entries.entry entry.frame.0) in
+    subst (λ (entries : List Entry). EntryAgrees layout (entry_at entries entry.frame.0) (held layout past entry.frame.0) (blocked_at past entry.frame.0))
+    m.paging.entries (h.entries.entry entry.frame.0) in
     walk_finds-walkable layout past entry.flags (entry_at encls.entries entry.frame.0) entry.frame.0 p t.kind
     (ap (λ (mapping : Mapping). mapping.flags) mapped) (ap (λ (mapping : Mapping). mapping.frame) mapped) agrees
     ∙ sym (walk_same layout past state h p t.kind low) ∙ machine_walk layout cpu table encls state m t low

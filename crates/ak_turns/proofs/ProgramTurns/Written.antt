@@ -1,6 +1,6 @@
 -- Which frames an instruction leaves, and what it writes into the others.
-use Rattle.std.proofs.Common.{◌≡◌, ℕ, ◌+◌, ◌<◌, ◌≤◌, Bool, true, false, List, [], ◌∷◌, length, ◌==◌, refl, ap, sym, ◌∙◌, subst, arith, inl, inr}
-use Rattle.std.proofs.lemmas.Bool.{and_parts, cases_lt, eq-eqb, eqb-true}
+use Rattle.std.proofs.Common.{◌≡◌, ℕ, ◌<◌, ◌≤◌, Bool, true, false, List, [], ◌∷◌, length, ◌==◌, refl, ap, sym, ◌∙◌, subst, arith, inl, inr}
+use Rattle.std.proofs.lemmas.Bool.{cases_lt, eq-eqb, eqb-true}
 use Rattle.std.specs.Prelude.{◌&&◌, ◌||◌, if◌then◌else◌}
 use Rattle.std.specs.List.{list_all, list_any}
 use Rattle.ak_core.specs.Layout.{Layout}
@@ -56,7 +56,7 @@ pub has_held : (e : Entry) (p : ℕ) → has_page e p ≡ true → held_in e ≡
 has_held e p has = has_held_by e.valid e.kind e.page.0 p has
 
 -- a frame that holds a page of the enclave has that of its entry
-own_page : (e : Entry) → is_of_page e ≡ true → has_page e e.page.0 ≡ true
+pub own_page : (e : Entry) → is_of_page e ≡ true → has_page e e.page.0 ≡ true
 own_page e of = let same : (e.page.0 == e.page.0) ≡ true = eq-eqb e.page.0 e.page.0 refl in rw (of, same) refl
 
 -- no page that is not the program's is written
@@ -131,7 +131,8 @@ module _ (layout : Layout) (cpu : Cpu) (table : List Pte) (encls new : Enclave) 
       (f : ℕ) → frame_at new.frames f ≡ frame_at encls.frames f
   call_frame state m flat sees b a regs c f = by_page (is_of_page (entry_at encls.entries f)) refl
     where
-      by_seen : (p : ℕ) → has_page (entry_at encls.entries f) p ≡ true → p < pages layout → (b : Bool) → is_seen encls.entries table cpu.tlb p ≡ b → frame_at new.frames f ≡ frame_at encls.frames f
+      by_seen : (p : ℕ) → has_page (entry_at encls.entries f) p ≡ true → p < pages layout → (b : Bool) → is_seen encls.entries table cpu.tlb p ≡ b
+          → frame_at new.frames f ≡ frame_at encls.frames f
       by_seen p has l true seen =
           let same : c.after.bytes ≡ flat.bytes = keeps state m flat sees (End.Call b a) regs c in
           sym (new_bytes f p has) ∙ c.shows p l seen ∙ ap (λ bytes. page_bytes (record { regs = flat.regs; bytes = bytes }) p) same

@@ -1,12 +1,13 @@
 -- What each end of a step comes to, as the contract of the runtime's turn has it.
-use Rattle.std.proofs.Common.{◌≡◌, ℕ, ◌<◌, Bool, true, false, List, [], ◌∷◌, refl, ap, sym, ◌∙◌, subst}
-use Rattle.std.specs.Prelude.{Option, Some, None}
+use Rattle.std.proofs.Common.{◌≡◌, ℕ, ◌≤◌, true, false, List, [], ◌==◌, refl, ap, sym, ◌∙◌, subst}
+use Rattle.std.specs.Prelude.{Some, None}
 use Rattle.ak_core.specs.Layout.{Layout}
 use Rattle.ak_core.specs.Mem.{Access}
 use Rattle.ak_core.specs.declared.event.StopCause.{StopCause}
+use Rattle.ak_core.specs.declared.page.Entry.{Entry}
 use Rattle.ak_core.specs.declared.moves.Exit.{Exit}
-use Rattle.ak_core.specs.declared.registers.Regs.{Regs}
 use Rattle.ak_model.specs.Paging.Build.{steps_walk}
+use Rattle.ak_epcm.specs.Entries.{entry_at, is_of_page}
 use Rattle.ak_pte.specs.declared.table.Pte.{Pte}
 use Rattle.ak_pager.specs.declared.turn.RtTurn.{RtTurn}
 use Rattle.ak_ssa.specs.SavedFrames.{ByPage, why_of}
@@ -14,18 +15,20 @@ use Rattle.ak_ssa.specs.SavedRegisters.{AreRegs}
 use Rattle.ak_ssa.specs.declared.cause.Why.{Why}
 use Rattle.ak_tlb.specs.declared.translation.Translation.{Translation}
 use Rattle.ak_track.specs.Steps.{LeavesBy}
-use Rattle.ak_relation.specs.Premises.Works.{Quits, Ends, exit_of}
+use Rattle.ak_relation.specs.Premises.Works.{Ends, exit_of}
 use Rattle.ak_relation.specs.Relation.Causes.{NamesCause}
 use Rattle.ak_relation.specs.State.MachineState.{State}
-use Rattle.ak_encls.specs.Enclave.{Enclave}
+use Rattle.ak_encls.specs.Enclave.{Enclave, frame_at}
 use Rattle.ak_enclu.specs.Passing.{outside_now, ExitsTo, Steps}
+use Rattle.ak_enclu.specs.TcsBytes.{saved_of}
 use Rattle.ak_enclu.specs.declared.cpu.Cpu.{Cpu}
 use Rattle.ak_memory.specs.declared.memory.Memory.{Memory}
 use Rattle.ak_turns.specs.Running.{IsRunning, Runs, TurnsTo, outcome_of}
 use Rattle.ak_turns.specs.Stepping.{HasStepped}
 use Rattle.ak_turns.specs.declared.notes.ProgramNote.{ProgramNote}
 use Rattle.ak_turns.specs.declared.notes.RuntimeNote.{RuntimeNote}
-use Rattle.ak_turns.proofs.Steps.RuntimeTurns.{StepTurns, turn_goes, turn_quits, turn_faults}
+use Rattle.ak_turns.proofs.Steps.OwnMachine.{OwnFrames, own_frames, few_saved_here}
+use Rattle.ak_turns.proofs.Steps.RuntimeTurns.{StepTurns, same_frames, turn_goes, turn_quits, turn_faults}
 use Rattle.ak_turns.proofs.Steps.StepTold.{turned_to}
 
 -- what an asynchronous exit does, whatever is cached
@@ -40,6 +43,30 @@ recached cpu cached why old new to = record {
   rest = to.rest;
   track = λ lps marks holds. to.track lps marks holds;
 }
+
+-- what an asynchronous exit asks of a processor and the enclave
+pub record MayBeSaved (cpu : Cpu) (encls : Enclave) : Type 0 where
+  pub tcs : is_of_page (entry_at encls.entries cpu.tcs.0) ≡ true
+  pub area : is_of_page (entry_at encls.entries cpu.ssa.0) ≡ true
+  pub apart : (cpu.tcs.0 == cpu.ssa.0) ≡ false
+  pub saved : saved_of (frame_at encls.frames cpu.tcs.0) ≤ 2
+
+-- a processor whose step was refused an access may be saved
+pub may_be_saved : (layout : Layout) (cpu : Cpu) (memory : Memory) (r : Runs layout cpu memory) (walks : steps_walk layout.build ≡ true) (after : Cpu) (mid : Memory) (outcome : RtTurn) →
+    (s : HasStepped layout (record cpu { tlb = memory.tlb }) memory.table memory.encls mid.encls outcome after.regs) → after ≡ record cpu { regs = after.regs } →
+    (t : Access) → outcome ≡ RtTurn.Faulted t → MayBeSaved after mid.encls
+may_be_saved layout cpu memory r walks after mid outcome s cpu_is t e =
+    let own : OwnFrames cpu memory.encls = own_frames layout cpu memory r in
+    let entries : mid.encls.entries ≡ memory.encls.entries = ap (λ (x : Enclave). x.entries) s.rest in
+    let same = same_frames layout cpu memory r walks mid.encls outcome after.regs s r.state r.machine t e cpu.tcs.0 in
+    let few = few_saved_here layout cpu memory r in
+    subst (λ (c : Cpu). MayBeSaved c mid.encls) (sym cpu_is)
+    (record {
+      tcs = ap (λ (x : List Entry). is_of_page (entry_at x cpu.tcs.0)) entries ∙ own.tcs;
+      area = ap (λ (x : List Entry). is_of_page (entry_at x cpu.ssa.0)) entries ∙ own.area;
+      apart = own.apart;
+      saved = subst (λ (bytes : List ℕ). saved_of bytes ≤ 2) (sym same) few;
+    })
 
 module _ (layout : Layout) (cpu : Cpu) (memory : Memory) (r : Runs layout cpu memory) (walks : steps_walk layout.build ≡ true) (after : Cpu) (mid : Memory) (outcome : RtTurn)
     (s : HasStepped layout (record cpu { tlb = memory.tlb }) memory.table memory.encls mid.encls outcome after.regs) (cpu_is : after ≡ record cpu { regs = after.regs }) (table : mid.table ≡ memory.table)

@@ -1,6 +1,6 @@
 -- A step of the runtime faults just where an access was refused, since no row of its table ends in a fault; and it writes only pages that
 -- its memory holds.
-use Rattle.std.proofs.Common.{◌≡◌, ◌≢◌, ℕ, zero, suc, ◌<◌, ◌≤◌, Bool, true, false, List, [], ◌∷◌, length, arith, refl, ap, sym, ◌∙◌, subst, inl, inr}
+use Rattle.std.proofs.Common.{◌≡◌, ◌≢◌, ℕ, zero, suc, ◌<◌, ◌≤◌, Bool, true, false, List, [], ◌∷◌, arith, refl, ap, sym, ◌∙◌, subst, inl, inr}
 use Rattle.std.proofs.lemmas.Bool.Decides.{eqb_tells}
 use Rattle.std.specs.Prelude.{Option, Some, None, IsTrue, ◌⊎◌, ◌==◌}
 use Rattle.ak_core.specs.Layout.{Layout, IsValid}
@@ -80,25 +80,25 @@ module _ (layout : Layout) (r : Reads) where
   two_fits (ByPage t) = omega arith
 
   entry_fits : (k v : ℕ) (phase : Phase) → k < 3 → (k ≡ 0 → IsTrue (opens phase)) → Fits k (entry_row layout r k v phase).areas
-  entry_fits k v (Ended s) small open = tt
-  entry_fits k v (Trapped x) small open = tt
-  entry_fits k v Dead small open = tt
-  entry_fits zero v New small open = tt
-  entry_fits zero v Calling small open = tt
-  entry_fits zero v Running small open = absurd (let wrong = open refl in cc)
-  entry_fits zero v (Asked c) small open = absurd (let wrong = open refl in cc)
-  entry_fits (suc zero) v New small open = one_fits r.saved.cause
-  entry_fits (suc zero) v Calling small open = one_fits r.saved.cause
-  entry_fits (suc zero) v Running small open = one_fits r.saved.cause
-  entry_fits (suc zero) v (Asked c) small open = tt
-  entry_fits (suc (suc zero)) v New small open = two_fits r.saved.cause
-  entry_fits (suc (suc zero)) v Calling small open = two_fits r.saved.cause
-  entry_fits (suc (suc zero)) v Running small open = two_fits r.saved.cause
-  entry_fits (suc (suc zero)) v (Asked c) small open = two_fits r.saved.cause
-  entry_fits (suc (suc (suc k))) v New small open = absurd (omega arith)
-  entry_fits (suc (suc (suc k))) v Calling small open = absurd (omega arith)
-  entry_fits (suc (suc (suc k))) v Running small open = absurd (omega arith)
-  entry_fits (suc (suc (suc k))) v (Asked c) small open = absurd (omega arith)
+  entry_fits k v (Ended s) small opened = tt
+  entry_fits k v (Trapped x) small opened = tt
+  entry_fits k v Dead small opened = tt
+  entry_fits zero v New small opened = tt
+  entry_fits zero v Calling small opened = tt
+  entry_fits zero v Running small opened = absurd (let wrong = opened refl in cc)
+  entry_fits zero v (Asked c) small opened = absurd (let wrong = opened refl in cc)
+  entry_fits (suc zero) v New small opened = one_fits r.saved.cause
+  entry_fits (suc zero) v Calling small opened = one_fits r.saved.cause
+  entry_fits (suc zero) v Running small opened = one_fits r.saved.cause
+  entry_fits (suc zero) v (Asked c) small opened = tt
+  entry_fits (suc (suc zero)) v New small opened = two_fits r.saved.cause
+  entry_fits (suc (suc zero)) v Calling small opened = two_fits r.saved.cause
+  entry_fits (suc (suc zero)) v Running small opened = two_fits r.saved.cause
+  entry_fits (suc (suc zero)) v (Asked c) small opened = two_fits r.saved.cause
+  entry_fits (suc (suc (suc k))) v New small opened = absurd (omega arith)
+  entry_fits (suc (suc (suc k))) v Calling small opened = absurd (omega arith)
+  entry_fits (suc (suc (suc k))) v Running small opened = absurd (omega arith)
+  entry_fits (suc (suc (suc k))) v (Asked c) small opened = absurd (omega arith)
 
   finish_fits : (phase : Phase) → Fits 1 (finish_row r phase).areas
   finish_fits (Asked c) = omega arith
@@ -226,17 +226,17 @@ module _ (layout : Layout) (valid : IsValid layout) (control : Control) (flat : 
                 ∙ area_stays layout old new (touched_areas context) areas fits are i low (λ l. absurd (let clash : true ≡ false = sym (there i l) ∙ ap holds (sym is) ∙ gone in cc))
                 ∙ ap old (sym is)
 
-            by_first : Tells p (ssa_page layout 0) → Tells p (ssa_page layout 1) → Tells p (ssa_page layout 2) → new p ≡ old p
-            by_first (inl is) b c = area 0 (omega arith) is.1
-            by_first (inr a) (inl is) c = area 1 (omega arith) is.1
-            by_first (inr a) (inr b) (inl is) = area 2 (omega arith) is.1
-            by_first (inr a) (inr b) (inr c) = others p other (none a.1 b.1 c.1)
-
             none : p ≢ ssa_page layout 0 → p ≢ ssa_page layout 1 → p ≢ ssa_page layout 2 → (i : ℕ) → i < 3 → p ≢ ssa_page layout i
             none a b c zero low = a
             none a b c (suc zero) low = b
             none a b c (suc (suc zero)) low = c
             none a b c (suc (suc (suc i))) low = absurd (omega arith)
+
+            by_first : Tells p (ssa_page layout 0) → Tells p (ssa_page layout 1) → Tells p (ssa_page layout 2) → new p ≡ old p
+            by_first (inl is) b c = area 0 (omega arith) is.1
+            by_first (inr a) (inl is) c = area 1 (omega arith) is.1
+            by_first (inr a) (inr b) (inl is) = area 2 (omega arith) is.1
+            by_first (inr a) (inr b) (inr c) = others p other (none a.1 b.1 c.1)
 
     pub unheld_stays : (refused : Option Access) → StepsTo layout control context regs old new granted refused outcome after → (p : ℕ) → holds p ≡ false → new p ≡ old p
     unheld_stays None steps p gone = let done = steps.works refl in granted_stays done.0 done.1 p gone

@@ -1,14 +1,11 @@
 -- A step of the runtime as a turn of the machine: the processor goes on, leaves, or is saved at a refused access.
-use Rattle.std.proofs.Common.{◌≡◌, ℕ, ◌<◌, ◌≤◌, ◌++◌, Bool, true, false, List, [], ◌∷◌, length, ◌==◌, refl, ap, sym, ◌∙◌, subst}
+use Rattle.std.proofs.Common.{◌≡◌, ℕ, ◌<◌, true, false, List, [], ◌∷◌, length, ◌==◌, refl, ap, sym, ◌∙◌, subst}
 use Rattle.std.proofs.lemmas.Bool.{and_parts}
-use Rattle.std.specs.Prelude.{Option, Some, None, ◌||◌}
+use Rattle.std.specs.Prelude.{Some, None}
 use Rattle.std.specs.List.{list_all}
 use Rattle.ak_core.specs.Layout.{Layout}
 use Rattle.ak_core.specs.Mem.{Access}
-use Rattle.ak_core.specs.declared.moves.Exit.{Exit}
-use Rattle.ak_core.specs.declared.registers.Mode.{Mode}
 use Rattle.ak_core.specs.declared.registers.Regs.{Regs}
-use Rattle.ak_model.specs.Control.RuntimeTurn.{accesses}
 use Rattle.ak_model.specs.Paging.Build.{steps_walk}
 use Rattle.ak_model.specs.Paging.Pages.{all_pages}
 use Rattle.ak_pte.specs.declared.table.Pte.{Pte}
@@ -72,7 +69,7 @@ module _ (layout : Layout) (cpu : Cpu) (memory : Memory) (r : Runs layout cpu me
   done : StepDone layout before memory.table memory.encls new.frames s.before s.after s.granted s.refused outcome regs
   done = s.done
 
-  its_at : AtStep r.control.now
+  abbrev its_at : AtStep r.control.now
   its_at = at layout cpu memory r s.before done.memory.before_is done.mode
 
   its_may : MayStep layout r.control its_at.context r.stands.bytes.flat cpu.regs (memory_of (λ p. is_seen memory.encls.entries memory.table [] p) s.before)
@@ -143,7 +140,7 @@ module _ (layout : Layout) (cpu : Cpu) (memory : Memory) (r : Runs layout cpu me
       refused : s.refused ≡ Some t
       refused = outcome_is t e
 
-      same_frames : (f : ℕ) → frame_at new.frames f ≡ frame_at memory.encls.frames f
+      pub same_frames : (f : ℕ) → frame_at new.frames f ≡ frame_at memory.encls.frames f
       same_frames f =
           frames_stay memory.encls.entries memory.encls.frames new.frames s.before s.after done.memory (its_steps.faults t refused).1 f
 
