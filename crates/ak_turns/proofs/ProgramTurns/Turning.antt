@@ -70,6 +70,10 @@ vector_by v false false false e d f some = absurd (cc)
 vector_fits : (v : ℕ) → IsTrue (is_vector v) → (v ≢ 14) × (v < 256)
 vector_fits v some = vector_by v (v == 0) (v == 6) (v == 13) refl refl refl some
 
+-- a TCS that says that nothing is saved says that few are
+pub few_saved : {bytes : List ℕ} → IsTcs 0 false bytes → saved_of bytes ≤ 2
+few_saved {bytes} says = let none : saved_of bytes ≡ 0 = says.saved_is in omega arith
+
 -- what is cached after a turn whose memory used its translations
 pub cached_after : (mid new : Memory) → mid.uses_cache ≡ true
     → ((fills : List Fill) → HoldsFills mid.tlb fills → HoldsFills new.tlb (map (fill_by mid.table) (walked_of (in_use mid.uses_cache mid.tlb) (granted_in mid)) ++ fills))

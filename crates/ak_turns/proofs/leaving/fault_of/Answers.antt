@@ -1,0 +1,1 @@
+use Rattle.ak_turns.proofs.GoingOn.{goes_on, leaves}
