@@ -2,6 +2,7 @@
 pub mod Allowed
 pub mod CallAnswers
 pub mod StepTurns
+pub mod StepPages
 pub mod StepLaws
 pub mod Cases
 pub mod GoneOn

@@ -1,3 +1,4 @@
 mod Going
-mod ProgramTurns
 mod GoingOn
+mod ProgramTurns
+mod Steps

@@ -5,5 +5,8 @@ mod instruction;
 mod leaving;
 mod notes;
 mod program;
+mod runtime;
+mod turning;
 
 pub use notes::{ProgramNote, RuntimeNote, Turned};
+pub use turning::turn;
