@@ -6,7 +6,7 @@ ghost use Rattle.ak_relation.specs.State.MachineState.{State};
 ghost use Rattle.ak_ssa.specs.SavedRegisters.{AreRegs, AreWords};
 ghost use Rattle.ak_track.specs.Steps.{LeavesBy};
 ghost use Rattle.ak_enclu.specs.Passing.{outside_now, Steps};
-ghost use Rattle.ak_turns.specs.Running.{IsRunning, Runs, TurnKeeps, TurnsTo};
+ghost use Rattle.ak_turns.specs.Running.{IsRunning, Runs, TellsOf, TurnKeeps, TurnsTo};
 ghost use Rattle.ak_turns.specs.Stepping.{HasStepped};
 
 use crate::leaving::{fault_of, leave};
@@ -24,6 +24,7 @@ pub(crate) fn runtime_step(layout: &Layout, cpu: &mut Cpu, memory: &mut Memory) 
     requires walks { steps_walk layout.now.build ≡ true }
     requires runs { Runs layout.now cpu.old memory.old }
     ensures turn { (state : State) → IsRunning layout.now cpu.old memory.old state → TurnsTo layout.now cpu.old.lp.0 state result cpu.new memory.new }
+    ensures told { TellsOf result.program result.completed }
     ensures keeps { TurnKeeps result.exit cpu.old cpu.new memory.old memory.new }
 {
     match step(layout, cpu, memory) {
