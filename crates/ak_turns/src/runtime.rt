@@ -95,5 +95,4 @@ fn are_registers(regs: &Regs)
 /// So has each of these numbers.
 fn are_words(words: &[u64])
     ensures { AreWords words.now }
-{
-}
+{}

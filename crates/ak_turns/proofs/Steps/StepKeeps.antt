@@ -15,6 +15,11 @@ use Rattle.ak_memory.specs.declared.memory.Memory.{Memory}
 use Rattle.ak_turns.specs.Running.{Runs, TurnKeeps}
 use Rattle.ak_turns.proofs.ProgramTurns.Keeping.{cycles_stay, is_inside}
 
+-- an enclave of which tracking alone differs
+pub only_track : (old new : Enclave) → new ≡ record old { track = new.track } → new ≡ record old { frames = new.frames; track = new.track }
+only_track old new rest =
+    let same : old.frames ≡ new.frames = sym (ap (λ (e : Enclave). e.frames) rest) in rest ∙ ap (λ (frames : List (List ℕ)). record old { frames = frames; track = new.track }) same
+
 module _ (layout : Layout) (cpu : Cpu) (memory : Memory) (runs : Runs layout cpu memory) (regs : Regs) (mid new : Memory) (rest : mid.encls ≡ record memory.encls { frames = mid.encls.frames })
     (mid_table : mid.table ≡ memory.table) where
   mid_track : mid.encls.track ≡ memory.encls.track
