@@ -111,3 +111,9 @@ pub leaves : (layout : Layout) (lp : ℕ) (past : History) (control after : Cont
     control.now ≡ Some (Leave b a) → TurnFollows layout lp past exit control after made → is_some exit ≡ true
 leaves layout lp past control after exit made b a now follows =
     leaves_by layout control past b a after exit (ap (turn_of layout past control) (sym now) ∙ follows.turned)
+
+-- and shows nothing
+pub leave_is_quiet : (layout : Layout) (lp : ℕ) (past : History) (control after : Control) (exit : Option Exit) (event : Option Event) (made : List ProgramTurn) (b a : ℕ) →
+    control.now ≡ Some (Leave b a) → TurnFollows layout lp past exit control after made → events_by made ≡ listed event → event ≡ None
+leave_is_quiet layout lp past control after exit event made b a now follows told =
+    no_event layout lp past control after event made told (ap (turn_in lp past control) (sym now) ∙ follows.made_are)

@@ -2,3 +2,4 @@ mod Going
 mod GoingOn
 mod ProgramTurns
 mod Steps
+mod WholeRuns

@@ -1,12 +1,13 @@
 -- A run of turns of a processor that is inside: it is a move of the definitions.
-use Rattle.std.specs.Prelude.{◌≡◌, ℕ, ◌+◌, ◌-◌, Bool, true, false, List, Option, Some, None, IsSome, is_none, ◌==◌}
+use Rattle.std.specs.Prelude.{◌≡◌, ℕ, ◌+◌, ◌-◌, Bool, true, false, List, [], Option, Some, None, ◌==◌}
 use Rattle.ak_core.specs.Layout.{Layout}
 use Rattle.ak_core.specs.declared.event.Event.{Event}
 use Rattle.ak_core.specs.declared.event.Event.TheVariants.{Call, Trap}
 use Rattle.ak_core.specs.declared.moves.Answer.{Answer}
+use Rattle.ak_core.specs.declared.moves.Exit.{Exit}
 use Rattle.ak_core.specs.declared.moves.Move.TheVariants.{Run}
 use Rattle.ak_core.specs.declared.page.Lp.{Lp}
-use Rattle.ak_model.specs.Control.ControlState.{Control}
+use Rattle.ak_model.specs.Control.ControlState.{Context, Leave, Control}
 use Rattle.ak_model.specs.Paging.Histories.{History}
 use Rattle.ak_model.specs.Paging.Inside.{inside}
 use Rattle.ak_model.specs.Tapes.ProgramTurns.{ProgramTurn}
@@ -14,11 +15,13 @@ use Rattle.ak_pte.specs.declared.table.Pte.{Pte}
 use Rattle.ak_relation.specs.Relation.Causes.{NamesMoveCause}
 use Rattle.ak_relation.specs.Relation.Does.{IsMove, at_moment}
 use Rattle.ak_relation.specs.Relation.Stands.{Stands}
+use Rattle.ak_relation.specs.Relation.TurnByTurn.{AreTurns}
 use Rattle.ak_relation.specs.State.MachineState.{State}
 use Rattle.ak_encls.specs.Enclave.{Enclave}
 use Rattle.ak_enclu.specs.Machines.{IsMachine}
 use Rattle.ak_enclu.specs.declared.cpu.Cpu.{Cpu}
-use Rattle.ak_turns.specs.Running.{fault_event, outcome_of}
+use Rattle.ak_memory.specs.declared.memory.Memory.{Memory}
+use Rattle.ak_turns.specs.Running.{IsRunning, Runs, fault_event, outcome_of}
 use Rattle.ak_turns.specs.declared.notes.ProgramNote.{ProgramNote}
 use Rattle.ak_turns.specs.declared.notes.Ran.{Ran}
 
@@ -50,16 +53,26 @@ pub record RunsTo (layout : Layout) (lp : Lp) (turns : ℕ) (old : State) (ran :
   pub move : IsMove layout old new (Run lp turns) (Answer.Exit ran.exit) (event_after layout old.queue new.count ran.program)
   pub cause : NamesMoveCause layout old new (Run lp turns) (Answer.Exit ran.exit) (event_after layout old.queue new.count ran.program) (outcome_of ran.runtime)
 
+-- the processor has not left
+abbrev pub is_still : Exit → Bool
+is_still Exit.Still = true
+is_still _ = false
+
 -- what a run leaves: the processor is outside where it left, holds the frames that it held, and is the one that it was; nothing is
 -- cached in the memory; and of the memory's parts only bytes of frames and tracking differ
-pub record RunKeeps (ran : Ran) (cpu cpu' : Cpu) (old new : Memory) : Type 0 where
-  pub cpu_is : cpu' ≡ record cpu { regs = cpu'.regs; inside = is_still ran.exit; tlb = cpu'.tlb }
+pub record RunKeeps (exit : Exit) (cpu cpu' : Cpu) (old new : Memory) : Type 0 where
+  pub cpu_is : cpu' ≡ record cpu { regs = cpu'.regs; inside = is_still exit; tlb = cpu'.tlb }
   pub uncached : new.tlb ≡ []
   pub table : new.table ≡ old.table
   pub encls : new.encls ≡ record old.encls { frames = new.encls.frames; track = new.encls.track }
   pub cycles : new.encls.track.cycles ≡ old.encls.track.cycles
 
 -- ---- While it runs
+
+-- what the program showed last
+abbrev pub note_or : ProgramNote → ProgramNote → ProgramNote
+note_or ProgramNote.Plain earlier = earlier
+note_or note earlier = note
 
 -- these turns lead from the machine to one with this processor and this memory, with one event at most
 pub record RunsSoFar (layout : Layout) (lp taken : ℕ) (old : State) (completed : ℕ) (note : ProgramNote) (cpu : Cpu) (memory : Memory) : Type 0 where
@@ -82,7 +95,10 @@ pub record RunsWith (layout : Layout) (note : ProgramNote) (cpu : Cpu) (memory :
   pub runs : Runs layout cpu memory
   pub goes : GoesWith note runs.control.now
 
--- so many turns lead from each machine with the first processor and memory to one with the second
-abbrev pub RunsAll : Layout → ℕ → ℕ → ProgramNote → Cpu → Memory → Cpu → Memory → Type 0
-RunsAll layout taken completed note cpu memory cpu' memory' =
-    (state : State) → IsRunning layout cpu memory state → RunsSoFar layout cpu.lp.0 taken state completed note cpu' memory'
+-- a processor that was running, and what is left of it
+pub record StillRuns (cpu cpu' : Cpu) (old new : Memory) : Type 0 where
+  pub cpu_is : cpu' ≡ record cpu { regs = cpu'.regs; inside = cpu'.inside; tlb = cpu'.tlb }
+  pub uncached : cpu.tlb ≡ [] → cpu'.tlb ≡ []
+  pub table : new.table ≡ old.table
+  pub encls : new.encls ≡ record old.encls { frames = new.encls.frames; track = new.encls.track }
+  pub cycles : new.encls.track.cycles ≡ old.encls.track.cycles

@@ -1,10 +1,10 @@
 // Runs of turns.
-ghost use Rattle.std.specs.Prelude.{◌≡◌, ◌≤◌, [], true};
+ghost use Rattle.std.specs.Prelude.{◌≡◌, ◌≤◌, ◌<◌, [], true, false};
 ghost use Rattle.ak_model.specs.Paging.Build.{steps_walk};
 ghost use Rattle.ak_relation.specs.State.MachineState.{State};
 ghost use Rattle.ak_enclu.specs.Machines.{IsMachine};
 ghost use Rattle.ak_turns.specs.Running.{IsRunning, Runs};
-ghost use Rattle.ak_turns.specs.WholeRuns.{RunKeeps, RunsFrom, RunsTo, Stays};
+ghost use Rattle.ak_turns.specs.WholeRuns.{RunKeeps, RunsTo, Stays, StillRuns, is_still, note_or};
 
 use crate::notes::{ProgramNote, Ran, RuntimeNote};
 use crate::turning::turn;
@@ -18,11 +18,12 @@ use ak_memory::Memory;
 /// memory: a processor has its own translations.
 pub fn run(layout: &Layout, cpu: &mut Cpu, memory: &mut Memory, turns: u32) -> Ran
     requires walks { steps_walk layout.now.build ≡ true }
+    requires known { cpu.old.lp.0 < layout.now.lps }
     requires stays { Stays layout.now cpu.old memory.old.table memory.old.encls }
     requires uncached { memory.old.tlb ≡ [] }
     ensures run { (state : State) → IsMachine layout.now cpu.old memory.old.table memory.old.encls state
         → RunsTo layout.now cpu.old.lp turns state result cpu.new memory.new.table memory.new.encls }
-    ensures keeps { RunKeeps result cpu.old cpu.new memory.old memory.new }
+    ensures keeps { RunKeeps result.exit cpu.old cpu.new memory.old memory.new }
     ensures few { result.completed ≤ turns }
 {
     memory.swap_cache(&mut cpu.tlb);
@@ -34,10 +35,13 @@ pub fn run(layout: &Layout, cpu: &mut Cpu, memory: &mut Memory, turns: u32) -> R
 /// The same, while the translations of the processor are in the memory.
 fn take_turns(layout: &Layout, cpu: &mut Cpu, memory: &mut Memory, turns: u32) -> Ran
     requires walks { steps_walk layout.now.build ≡ true }
+    requires known { cpu.old.lp.0 < layout.now.lps }
     requires runs { Runs layout.now cpu.old memory.old }
     ensures run { (state : State) → IsRunning layout.now cpu.old memory.old state
-        → RunsFrom layout.now cpu.old.lp turns state result cpu.new memory.new }
-    ensures keeps { TakesKeep result cpu.old cpu.new memory.old memory.new }
+        → RunsTo layout.now cpu.old.lp turns state result (record cpu.new { tlb = memory.new.tlb }) memory.new.table memory.new.encls }
+    ensures inside { cpu.new.inside ≡ is_still result.exit }
+    ensures flushed { cpu.new.inside ≡ false → memory.new.tlb ≡ [] }
+    ensures keeps { StillRuns cpu.old cpu.new memory.old memory.new }
     ensures few { result.completed ≤ turns }
 {
     let mut completed = 0;

@@ -1,5 +1,5 @@
 // A turn of the runtime.
-ghost use Rattle.std.specs.Prelude.{◌≡◌, [], None, false, true};
+ghost use Rattle.std.specs.Prelude.{◌≡◌, [], None, false, true, is_some};
 ghost use Rattle.ak_core.specs.declared.registers.Mode;
 ghost use Rattle.ak_model.specs.Paging.Build.{steps_walk};
 ghost use Rattle.ak_relation.specs.State.MachineState.{State};
@@ -25,6 +25,7 @@ pub(crate) fn runtime_step(layout: &Layout, cpu: &mut Cpu, memory: &mut Memory) 
     requires runs { Runs layout.now cpu.old memory.old }
     ensures turn { (state : State) → IsRunning layout.now cpu.old memory.old state → TurnsTo layout.now cpu.old.lp.0 state result cpu.new memory.new }
     ensures told { TellsOf result.program result.completed }
+    ensures left { is_some result.exit ≡ true → result.completed ≡ false }
     ensures keeps { TurnKeeps result.exit cpu.old cpu.new memory.old memory.new }
 {
     match step(layout, cpu, memory) {

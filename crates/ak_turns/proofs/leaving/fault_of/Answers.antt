@@ -1,1 +1,0 @@
-use Rattle.ak_turns.proofs.GoingOn.{goes_on, leaves}
