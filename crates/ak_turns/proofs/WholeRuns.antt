@@ -1,5 +1,6 @@
 -- Turns, one after another, lead to a run: one more turn goes on with those before it, and the last one ends the run.
 use Rattle.std.proofs.Common.{◌≡◌, ℕ, suc, ◌+◌, ◌-◌, ◌<◌, Bool, true, false, List, [], ◌∷◌, ◌++◌, refl, ap, sym, ◌∙◌, subst, arith, ◌==◌}
+use Rattle.std.proofs.lemmas.Bool.Decides.{nat_tests}
 use Rattle.std.specs.Prelude.{Option, Some, None, is_some, nat_lt, if◌then◌else◌}
 use Rattle.ak_core.specs.Layout.{Layout}
 use Rattle.ak_core.specs.Mem.{Access}
@@ -23,10 +24,11 @@ use Rattle.ak_relation.specs.Relation.Causes.{NamesCause, NamesMoveCause}
 use Rattle.ak_relation.specs.Relation.Does.{GoesTo, IsMove, IsTurn, TurnFollows, at_moment, past_after, with_rest}
 use Rattle.ak_relation.specs.Relation.TurnByTurn.{AreTurns}
 use Rattle.ak_relation.specs.State.MachineState.{State}
+use Rattle.ak_encls.specs.Enclave.{Enclave}
 use Rattle.ak_enclu.specs.declared.cpu.Cpu.{Cpu}
 use Rattle.ak_memory.specs.declared.memory.Memory.{Memory}
-use Rattle.ak_turns.specs.Running.{IsRunning, Runs, TellsOf, TurnsTo, completed_in, event_of, fault_event, outcome_of}
-use Rattle.ak_turns.specs.WholeRuns.{GoesWith, RunsSoFar, RunsTo, RunsWith, event_after, note_or}
+use Rattle.ak_turns.specs.Running.{IsRunning, Runs, TellsOf, TurnKeeps, TurnsTo, completed_in, event_of, fault_event, outcome_of}
+use Rattle.ak_turns.specs.WholeRuns.{GoesWith, RunsSoFar, RunsTo, RunsWith, StillRuns, event_after, note_or}
 use Rattle.ak_turns.specs.declared.notes.ProgramNote.{ProgramNote}
 use Rattle.ak_turns.specs.declared.notes.Ran.{Ran}
 use Rattle.ak_turns.specs.declared.notes.RuntimeNote.{RuntimeNote}
@@ -223,4 +225,28 @@ all_taken layout lp all completed note old cpu memory so_far known in_use = reco
   count = so_far.count;
   move = still_moves layout lp old known in_use all so_far.new (event_after layout old.queue so_far.new.count note) so_far.turns;
   cause = still_names layout lp old known in_use all so_far.new (event_after layout old.queue so_far.new.count note) so_far.turns;
+}
+
+-- ---- The processor
+
+-- a processor that runs is inside, and so it is in each machine that has it
+pub runs_inside : (layout : Layout) (cpu : Cpu) (memory : Memory) → Runs layout cpu memory → cpu.inside ≡ true
+runs_inside layout cpu memory runs = sym runs.machine.processor.inside ∙ runs.stands.tables.presence.within cpu.lp.0 ∙ runs.within
+
+-- a number below another, as a test
+pub is_below : (n m : ℕ) → n < m → nat_lt n m ≡ true
+is_below n m lt = grind (arith, nat_tests)
+
+-- what a turn leaves, after what the turns before it left
+pub still_on : (exit : Option Exit) (cpu cpu' cpu'' : Cpu) (memory memory' memory'' : Memory) → StillRuns cpu cpu' memory memory' → TurnKeeps exit cpu' cpu'' memory' memory'' →
+    StillRuns cpu cpu'' memory memory''
+still_on exit cpu cpu' cpu'' memory memory' memory'' before turn = record {
+  cpu_is =
+      let is : cpu'' ≡ record cpu' { regs = cpu''.regs; inside = cpu''.inside; tlb = cpu''.tlb } =
+      turn.cpu_is ∙ ap (λ b. record cpu' { regs = cpu''.regs; inside = b; tlb = cpu''.tlb }) (sym (ap (λ (c : Cpu). c.inside) turn.cpu_is)) in
+      is ∙ ap (λ (c : Cpu). record c { regs = cpu''.regs; inside = cpu''.inside; tlb = cpu''.tlb }) before.cpu_is;
+  uncached = λ none. turn.uncached (before.uncached none);
+  table = turn.table ∙ before.table;
+  encls = turn.encls ∙ ap (λ (e : Enclave). record e { frames = memory''.encls.frames; track = memory''.encls.track }) before.encls;
+  cycles = turn.cycles ∙ before.cycles;
 }
