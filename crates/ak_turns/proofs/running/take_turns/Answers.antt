@@ -1,11 +1,9 @@
-use Rattle.std.proofs.Common.{◌≡◌, ◌≤◌, ◌<◌, true, false, ℕ, ◌+◌, suc, refl, ap, sym, ◌∙◌, subst, arith, nat_lt}
-use Rattle.std.specs.Prelude.{Some, None, is_some, is_none}
-use Rattle.ak_core.specs.Layout.{Layout}
+use Rattle.std.proofs.Common.{◌≡◌, ◌<◌, true, ℕ, ◌+◌, suc, ap, sym, ◌∙◌, subst, arith, nat_lt}
+use Rattle.std.specs.Prelude.{None, is_none}
 use Rattle.ak_core.specs.declared.page.Lp.{Lp}
-use Rattle.ak_relation.specs.State.MachineState.{State}
 use Rattle.ak_enclu.specs.declared.cpu.Cpu.{Cpu}
-use Rattle.ak_turns.specs.Running.{IsRunning, TurnsTo, completed_in}
-use Rattle.ak_turns.specs.WholeRuns.{RunsSoFar, RunsTo, RunsWith, note_or}
+use Rattle.ak_turns.specs.Running.{TurnsTo, completed_in}
+use Rattle.ak_turns.specs.WholeRuns.{RunsSoFar, RunsWith, note_or}
 use Rattle.ak_turns.specs.declared.notes.ProgramNote.{ProgramNote}
 use Rattle.ak_turns.specs.declared.notes.Ran.{Ran}
 use Rattle.ak_turns.proofs.WholeRuns.{runs_with, follows, one_more, last_one, all_taken, runs_inside, is_below, still_on}
@@ -28,10 +26,10 @@ returns-in-Some-clause-run c state m =
     let lt : l._taken < c.args.turns = c.loop-taken-test.true in
     let one : c.count_of-completed.result ≡ completed_in t.result.completed = c.count_of-completed.ensures.count in
     let is : (completed : ℕ) (program : ProgramNote) → completed ≡ completed_in t.result.completed → program ≡ note_or t.result.program l.program →
-        (let ran : Ran = record { exit = c.in-Some.exit; completed = l.completed + completed; program = program; runtime = t.result.runtime } in ran)
-        ≡ record { exit = c.in-Some.exit; completed = l.completed + completed_in t.result.completed; program = note_or t.result.program l.program; runtime = t.result.runtime } =
+    (let ran : Ran = record { exit = c.in-Some.exit; completed = l.completed + completed; program = program; runtime = t.result.runtime } in ran)
+    ≡ record { exit = c.in-Some.exit; completed = l.completed + completed_in t.result.completed; program = note_or t.result.program l.program; runtime = t.result.runtime } =
     λ completed program e d. subst (λ k. (let ran : Ran = record { exit = c.in-Some.exit; completed = l.completed + k; program = program; runtime = t.result.runtime } in ran)
-        ≡ record { exit = c.in-Some.exit; completed = l.completed + completed_in t.result.completed; program = note_or t.result.program l.program; runtime = t.result.runtime }) (sym e)
+    ≡ record { exit = c.in-Some.exit; completed = l.completed + completed_in t.result.completed; program = note_or t.result.program l.program; runtime = t.result.runtime }) (sym e)
     (ap (λ (p : ProgramNote). let ran : Ran = record { exit = c.in-Some.exit; completed = l.completed + completed_in t.result.completed; program = p; runtime = t.result.runtime } in ran) d) in
     last_one layout first.lp l._taken l.completed l.program state t.result l.cpu t.new.cpu l.memory t.new.memory s f to known in_use c.args.turns lt c.in-Some.exit c.in-Some.is
     (record { exit = c.in-Some.exit; completed = l.completed + c.count_of-completed.result; program = c.later_note-program.result; runtime = t.result.runtime })
