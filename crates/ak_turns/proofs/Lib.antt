@@ -1,3 +1,6 @@
 mod Going
+mod GoingOn
 mod ProgramTurns
 mod Steps
+mod WholeRuns
+mod CachedPages

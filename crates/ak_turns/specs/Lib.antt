@@ -1,3 +1,4 @@
 pub mod Running
 pub mod Instructing
 pub mod Stepping
+pub mod WholeRuns

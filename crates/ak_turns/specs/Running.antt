@@ -61,6 +61,13 @@ event_of layout queue count (ProgramNote.Faulted t) = Some (fault_event layout q
 abbrev pub completed_in : Bool → ℕ
 completed_in completed = if completed then 1 else 0
 
+-- a call is completed, and where the program leaves by a vector or a fault nothing is
+abbrev pub TellsOf : ProgramNote → Bool → Type 0
+TellsOf ProgramNote.Plain completed = Unit {0}
+TellsOf (ProgramNote.Called b a) completed = completed ≡ true
+TellsOf (ProgramNote.Trapped v) completed = completed ≡ false
+TellsOf (ProgramNote.Faulted t) completed = completed ≡ false
+
 -- the outcome of the runtime's step that the note tells
 abbrev pub outcome_of : RuntimeNote → RtTurn
 outcome_of RuntimeNote.Quiet = RtTurn.Go
@@ -76,6 +83,7 @@ pub record TurnsTo (layout : Layout) (lp : ℕ) (old : State) (turned : Turned) 
   pub machine : IsRunning layout cpu memory new
   pub others : (q : ℕ) → (q == lp) ≡ false → new.processors q ≡ old.processors q
   pub count : new.count ≡ old.count + completed_in turned.completed
+  pub queue : turned.exit ≡ None → new.queue ≡ old.queue
   pub turn : IsTurn layout lp old new turned.exit (event_of layout old.queue old.count turned.program)
   pub cause : NamesCause layout lp old new turned.exit (event_of layout old.queue old.count turned.program) (outcome_of turned.runtime)
 

@@ -38,3 +38,16 @@ pub struct Turned {
     /// What the runtime did.
     pub runtime: RuntimeNote,
 }
+
+/// What a run of turns came to.
+#[derive(Clone, Copy, PartialEq, Eq, Debug)]
+pub struct Ran {
+    /// The exit by which the processor left, or `Still`.
+    pub exit: Exit,
+    /// How many instructions of the program were completed.
+    pub completed: u64,
+    /// What the program showed.
+    pub program: ProgramNote,
+    /// What the runtime did.
+    pub runtime: RuntimeNote,
+}

@@ -1,8 +1,8 @@
 // A turn of the program.
-ghost use Rattle.std.specs.Prelude.{◌≡◌, None, Some, false, true};
+ghost use Rattle.std.specs.Prelude.{◌≡◌, None, Some, false, true, is_some};
 ghost use Rattle.ak_pager.specs.Contexts.{step_address};
 ghost use Rattle.ak_relation.specs.State.MachineState.{State};
-ghost use Rattle.ak_turns.specs.Running.{IsRunning, Runs, TurnKeeps, TurnsTo};
+ghost use Rattle.ak_turns.specs.Running.{IsRunning, Runs, TellsOf, TurnKeeps, TurnsTo};
 
 use crate::instruction::instruct;
 use crate::leaving::{fault_of, leave};
@@ -51,6 +51,8 @@ pub(crate) fn program_turn(layout: &Layout, cpu: &mut Cpu, memory: &mut Memory) 
     requires program { cpu.old.regs.mode ≡ Mode.Program }
     requires runs { Runs layout.now cpu.old memory.old }
     ensures turn { (state : State) → IsRunning layout.now cpu.old memory.old state → TurnsTo layout.now cpu.old.lp.0 state result cpu.new memory.new }
+    ensures told { TellsOf result.program result.completed }
+    ensures left { is_some result.exit ≡ true → result.completed ≡ false }
     ensures keeps { TurnKeeps result.exit cpu.old cpu.new memory.old memory.new }
 {
     match instruct(layout, &mut cpu.regs, memory) {

@@ -1,12 +1,12 @@
 // A turn of the runtime.
-ghost use Rattle.std.specs.Prelude.{◌≡◌, [], None, false, true};
+ghost use Rattle.std.specs.Prelude.{◌≡◌, [], None, false, true, is_some};
 ghost use Rattle.ak_core.specs.declared.registers.Mode;
 ghost use Rattle.ak_model.specs.Paging.Build.{steps_walk};
 ghost use Rattle.ak_relation.specs.State.MachineState.{State};
 ghost use Rattle.ak_ssa.specs.SavedRegisters.{AreRegs, AreWords};
 ghost use Rattle.ak_track.specs.Steps.{LeavesBy};
 ghost use Rattle.ak_enclu.specs.Passing.{outside_now, Steps};
-ghost use Rattle.ak_turns.specs.Running.{IsRunning, Runs, TurnKeeps, TurnsTo};
+ghost use Rattle.ak_turns.specs.Running.{IsRunning, Runs, TellsOf, TurnKeeps, TurnsTo};
 ghost use Rattle.ak_turns.specs.Stepping.{HasStepped};
 
 use crate::leaving::{fault_of, leave};
@@ -24,6 +24,8 @@ pub(crate) fn runtime_step(layout: &Layout, cpu: &mut Cpu, memory: &mut Memory) 
     requires walks { steps_walk layout.now.build ≡ true }
     requires runs { Runs layout.now cpu.old memory.old }
     ensures turn { (state : State) → IsRunning layout.now cpu.old memory.old state → TurnsTo layout.now cpu.old.lp.0 state result cpu.new memory.new }
+    ensures told { TellsOf result.program result.completed }
+    ensures left { is_some result.exit ≡ true → result.completed ≡ false }
     ensures keeps { TurnKeeps result.exit cpu.old cpu.new memory.old memory.new }
 {
     match step(layout, cpu, memory) {

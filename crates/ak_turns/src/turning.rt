@@ -1,8 +1,8 @@
 // One turn of a processor that is inside.
-ghost use Rattle.std.specs.Prelude.{◌≡◌, None, true};
+ghost use Rattle.std.specs.Prelude.{◌≡◌, None, true, is_some, false};
 ghost use Rattle.ak_model.specs.Paging.Build.{steps_walk};
 ghost use Rattle.ak_relation.specs.State.MachineState.{State};
-ghost use Rattle.ak_turns.specs.Running.{IsRunning, Runs, TurnKeeps, TurnsTo};
+ghost use Rattle.ak_turns.specs.Running.{IsRunning, Runs, TellsOf, TurnKeeps, TurnsTo};
 
 use crate::notes::Turned;
 use crate::program::program_turn;
@@ -20,6 +20,8 @@ pub fn turn(layout: &Layout, cpu: &mut Cpu, memory: &mut Memory) -> Turned
     requires walks { steps_walk layout.now.build ≡ true }
     requires runs { Runs layout.now cpu.old memory.old }
     ensures turn { (state : State) → IsRunning layout.now cpu.old memory.old state → TurnsTo layout.now cpu.old.lp.0 state result cpu.new memory.new }
+    ensures told { TellsOf result.program result.completed }
+    ensures left { is_some result.exit ≡ true → result.completed ≡ false }
     ensures keeps { TurnKeeps result.exit cpu.old cpu.new memory.old memory.new }
     ensures runs { result.exit ≡ None → Runs layout.now cpu.new memory.new }
 {

@@ -145,6 +145,7 @@ module _ (layout : Layout) (cpu : Cpu) (memory : Memory) (runs : Runs layout cpu
               (frame_at mid.encls.frames) (holds_after Turn.Done d) (λ f. refl));
           others = λ q other. stepped_other state cpu.lp.0 q _ other;
           count = refl;
+          queue = λ goes. refl;
           turn = turn;
           cause = program_names layout cpu.lp.0 state end None None (state_mode state m) turn;
         }
@@ -169,6 +170,7 @@ module _ (layout : Layout) (cpu : Cpu) (memory : Memory) (runs : Runs layout cpu
               (λ f. m.paging.frames f ∙ sym (same f)));
           others = λ q other. stepped_other state cpu.lp.0 q _ other;
           count = refl;
+          queue = λ goes. refl;
           turn = turn;
           cause = program_names layout cpu.lp.0 state end None (Some (Call state.count b a)) (state_mode state m) turn;
         }
@@ -279,6 +281,7 @@ module _ (layout : Layout) (cpu : Cpu) (memory : Memory) (runs : Runs layout cpu
           machine = is_left led.state led.machine;
           others = saved.others;
           count = saved.count ∙ none;
+          queue = λ goes. let left : true ≡ false = ap is_some goes in cc;
           turn = turn;
           cause = program_names layout cpu.lp.0 state led.state (Some exit) (event_of layout state.queue state.count note) (state_mode state m) turn;
         }

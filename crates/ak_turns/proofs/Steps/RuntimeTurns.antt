@@ -47,6 +47,7 @@ pub record StepTurns (layout : Layout) (lp : ℕ) (old : State) (outcome : RtTur
   pub machine : IsMachine layout cpu table encls new
   pub others : (q : ℕ) → (q == lp) ≡ false → new.processors q ≡ old.processors q
   pub count : new.count ≡ old.count
+  pub queue : exit_of layout outcome ≡ None → new.queue ≡ old.queue
   pub turn : IsTurn layout lp old new (exit_of layout outcome) None
   pub cause : NamesCause layout lp old new (exit_of layout outcome) None outcome
 
@@ -99,12 +100,13 @@ module _ (layout : Layout) (cpu : Cpu) (memory : Memory) (r : Runs layout cpu me
   module _ (state : State) (m : IsRunning layout cpu memory state) where
     -- as it shows, so it turns
     turns : (end : State) (cpu' : Cpu) (encls' : Enclave) → IsMachine layout cpu' memory.table encls' end → ((q : ℕ) → (q == cpu.lp.0) ≡ false → end.processors q ≡ state.processors q) →
-        end.count ≡ state.count → ShowsStep layout cpu.lp.0 state end outcome → StepTurns layout cpu.lp.0 state outcome cpu' memory.table encls'
-    turns end cpu' encls' machine others count shows = record {
+        end.count ≡ state.count → (exit_of layout outcome ≡ None → end.queue ≡ state.queue) → ShowsStep layout cpu.lp.0 state end outcome → StepTurns layout cpu.lp.0 state outcome cpu' memory.table encls'
+    turns end cpu' encls' machine others count queue shows = record {
       new = end;
       machine = machine;
       others = others;
       count = count;
+      queue = queue;
       turn = valid_turns layout (valid layout cpu memory r) walks cpu.lp state end outcome shows;
       cause = valid_causes layout (valid layout cpu memory r) walks cpu.lp state end outcome shows;
     }
@@ -117,7 +119,7 @@ module _ (layout : Layout) (cpu : Cpu) (memory : Memory) (r : Runs layout cpu me
         let end = moved_on layout before memory.table memory.encls state m regs new.frames in
         turns end after new
         (subst (λ (encls : Enclave). IsMachine layout after memory.table encls end) (sym s.rest) (moved_machine layout before memory.table memory.encls state m regs new.frames))
-        on.others refl
+        on.others refl (λ goes. refl)
         (shows_done layout before memory.table memory.encls state m new.frames s.before s.after s.granted s.refused outcome regs done unseen end.processors state.track
         (subst (λ o. Ends cpu.lp.0 o regs state end) (sym e) on) (λ t refused. absurd (let clash : RtTurn.Go ≡ RtTurn.Faulted t = sym e ∙ refused_is t refused in cc)))
 
@@ -130,7 +132,7 @@ module _ (layout : Layout) (cpu : Cpu) (memory : Memory) (r : Runs layout cpu me
         has_quit layout before memory.table memory.encls state m regs new.frames left
         (rest ∙ ap (λ (e : Enclave). record e { track = left.track }) s.rest) (subst (λ (e : Enclave). Steps e left (LeavesBy cpu.lp.0)) s.rest (λ lps marks holds. steps lps marks holds)) in
         let quits = q.quits in
-        turns (changed state q.end.processors q.end.track (frame_at new.frames)) (outside_now after) left q.machine quits.others refl
+        turns (changed state q.end.processors q.end.track (frame_at new.frames)) (outside_now after) left q.machine quits.others refl (λ goes. refl)
         (shows_done layout before memory.table memory.encls state m new.frames s.before s.after s.granted s.refused outcome regs done unseen q.end.processors q.end.track
         (ends (changed state q.end.processors q.end.track (frame_at new.frames)) quits) (λ t refused. never t (refused_is t refused)))
 
@@ -185,5 +187,6 @@ module _ (layout : Layout) (cpu : Cpu) (memory : Memory) (r : Runs layout cpu me
           (subst (IsTcs own.saved false) (sym (same_frames cpu.tcs.0)) own.says) (λ mode. words) refused_low in
           let saved = q.does in
           turns q.state (outside_now after) left q.machine saved.others saved.count
+          (λ goes. let left_is : true ≡ false = sym (ap (λ o. is_some (exit_of layout o)) e) ∙ ap is_some goes in cc)
           (shows_refused layout before memory.table memory.encls state m new.frames s.before s.after s.granted s.refused outcome regs done q.state t own.saved false refused
           (subst (IsTcs own.saved false) (sym (ap state.frames m.processor.tcs ∙ m.paging.frames cpu.tcs.0)) own.says) saved)

@@ -133,6 +133,7 @@ turned_to layout lp old outcome cpu memory exit note t e named = record {
   machine = t.machine;
   others = t.others;
   count = let none : old.count ≡ old.count + 0 = omega arith in t.count ∙ none;
+  queue = λ goes. t.queue (sym e ∙ goes);
   turn = subst (λ x. IsTurn layout lp old t.new x None) (sym e) t.turn;
   cause = subst (λ x. NamesCause layout lp old t.new x None (outcome_of note)) (sym e) (named t.new t.cause);
 }
