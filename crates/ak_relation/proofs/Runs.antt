@@ -9,3 +9,6 @@ pub mod TracedMoves
 pub mod KeptCauses
 pub mod NamedMoves
 pub mod TracedCauses
+pub mod TapeOutputs
+pub mod NamedBreaks
+pub mod SoundJournals

@@ -6,5 +6,6 @@ pub mod TurnByTurn
 pub mod Causes
 pub mod MoveByMove
 pub mod NamedMoves
+pub mod Journals
 pub mod Example
 pub mod Witnesses

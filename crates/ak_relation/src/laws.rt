@@ -4,6 +4,7 @@ pub mod built;
 pub mod causes;
 pub mod entering;
 pub mod holding;
+pub mod journals;
 pub mod leaves;
 pub mod program;
 pub mod reached;

@@ -1,0 +1,47 @@
+// Laws on the journal of moves from the build: it is sound.
+ghost use Rattle.ak_core.specs.Layout.{IsValid};
+ghost use Rattle.ak_model.specs.Paging.Histories.{History};
+ghost use Rattle.ak_model.specs.Paging.Pages.{pages};
+ghost use Rattle.ak_model.specs.Sound.BreaksAndStop.{BreaksAreForcedUnkept, IsStopped};
+ghost use Rattle.ak_model.specs.Sound.Events.{EventsAreFlat};
+ghost use Rattle.ak_model.specs.Sound.Forced.{AccessesAreReached, turns_of};
+ghost use Rattle.ak_model.specs.Sound.ForcedMisses.{MissesAreForced};
+ghost use Rattle.ak_model.specs.Sound.Outputs.{OutputsAreFlat};
+ghost use Rattle.ak_model.specs.Sound.SoundJournal.{Sound};
+ghost use Rattle.ak_model.specs.Sound.TracedAnswers.{AnswersAreTraced};
+ghost use Rattle.ak_model.specs.Tapes.LastMoment.{runs_of};
+ghost use Rattle.ak_relation.specs.Relation.Journals.{HasJournal, StopNamesBreak};
+ghost use Rattle.ak_relation.specs.State.MachineState.{State};
+ghost use Rattle.std.specs.Prelude.{List, None, length, ℕ, ◌*◌, ◌≡◌};
+ghost use Rattle.ak_core.specs.Journal;
+ghost use Rattle.ak_core.specs.Layout;
+
+/// The journal of any moves from the build is sound, part by part: the layout is valid and the image whole; its outputs are a beginning
+/// of those of the flat run, with the values that were returned; its events agree with the flat run; each access of what completes or
+/// traps was reached; misses and breaks are forced; and its answers are those of the trace. While there is no stop, a break has no
+/// access to name; a stop for an unmapped page of the program is to name one that forced a break. So all of it is sound where the stop
+/// is the one of the control state.
+pub fn journals_are_sound()
+    ensures valid { (layout : Layout.Layout) (image : List ℕ) (past : History) (state : State) (journal : Journal.Journal)
+        → HasJournal layout image past state journal → IsValid layout }
+    ensures whole { (layout : Layout.Layout) (image : List ℕ) (past : History) (state : State) (journal : Journal.Journal)
+        → HasJournal layout image past state journal → length image ≡ 4096 * pages layout }
+    ensures outputs { (layout : Layout.Layout) (image : List ℕ) (past : History) (state : State) (journal : Journal.Journal)
+        → HasJournal layout image past state journal → OutputsAreFlat image layout journal }
+    ensures events { (layout : Layout.Layout) (image : List ℕ) (past : History) (state : State) (journal : Journal.Journal)
+        → HasJournal layout image past state journal → EventsAreFlat image layout journal }
+    ensures accesses { (layout : Layout.Layout) (image : List ℕ) (past : History) (state : State) (journal : Journal.Journal)
+        → HasJournal layout image past state journal → AccessesAreReached image layout journal }
+    ensures misses { (layout : Layout.Layout) (image : List ℕ) (past : History) (state : State) (journal : Journal.Journal)
+        → HasJournal layout image past state journal → MissesAreForced image layout journal }
+    ensures breaks { (layout : Layout.Layout) (image : List ℕ) (past : History) (state : State) (journal : Journal.Journal)
+        → HasJournal layout image past state journal → journal.stop ≡ None → BreaksAreForcedUnkept image layout journal }
+    ensures named_breaks { (layout : Layout.Layout) (image : List ℕ) (past : History) (state : State) (journal : Journal.Journal)
+        → HasJournal layout image past state journal
+        → StopNamesBreak layout (runs_of layout image journal) (turns_of layout journal) journal.stop → BreaksAreForcedUnkept image layout journal }
+    ensures answers { (layout : Layout.Layout) (image : List ℕ) (past : History) (state : State) (journal : Journal.Journal)
+        → HasJournal layout image past state journal → AnswersAreTraced layout journal }
+    ensures all { (layout : Layout.Layout) (image : List ℕ) (past : History) (state : State) (journal : Journal.Journal)
+        → HasJournal layout image past state journal
+        → StopNamesBreak layout (runs_of layout image journal) (turns_of layout journal) journal.stop → IsStopped layout journal → Sound image layout journal }
+{}
