@@ -12,3 +12,5 @@ pub mod TracedCauses
 pub mod TapeOutputs
 pub mod NamedBreaks
 pub mod SoundJournals
+pub mod TracedStops
+pub mod KeptJournals

@@ -7,5 +7,7 @@ pub mod Causes
 pub mod MoveByMove
 pub mod NamedMoves
 pub mod Journals
+pub mod Stopping
+pub mod Keeping
 pub mod Example
 pub mod Witnesses

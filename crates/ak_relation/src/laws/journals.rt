@@ -1,5 +1,8 @@
 // Laws on the journal of moves from the build: it is sound.
 ghost use Rattle.ak_core.specs.Layout.{IsValid};
+ghost use Rattle.ak_core.specs.declared.event.Event.{Event};
+ghost use Rattle.ak_core.specs.declared.moves.Answer.{Answer};
+ghost use Rattle.ak_core.specs.declared.moves.Move.{Move};
 ghost use Rattle.ak_model.specs.Paging.Histories.{History};
 ghost use Rattle.ak_model.specs.Paging.Pages.{pages};
 ghost use Rattle.ak_model.specs.Sound.BreaksAndStop.{BreaksAreForcedUnkept, IsStopped};
@@ -10,9 +13,13 @@ ghost use Rattle.ak_model.specs.Sound.Outputs.{OutputsAreFlat};
 ghost use Rattle.ak_model.specs.Sound.SoundJournal.{Sound};
 ghost use Rattle.ak_model.specs.Sound.TracedAnswers.{AnswersAreTraced};
 ghost use Rattle.ak_model.specs.Tapes.LastMoment.{runs_of};
+ghost use Rattle.ak_pager.specs.declared.turn.RtTurn.{RtTurn};
+ghost use Rattle.ak_relation.specs.Premises.Built.{IsBuilt};
+ghost use Rattle.ak_relation.specs.Relation.Causes.{NamesMoveCause};
 ghost use Rattle.ak_relation.specs.Relation.Journals.{HasJournal, StopNamesBreak};
+ghost use Rattle.ak_relation.specs.Relation.Keeping.{HasOneMore, KeepsJournal};
 ghost use Rattle.ak_relation.specs.State.MachineState.{State};
-ghost use Rattle.std.specs.Prelude.{List, None, length, ℕ, ◌*◌, ◌≡◌};
+ghost use Rattle.std.specs.Prelude.{List, None, Option, [], length, ℕ, ◌*◌, ◌∷◌, ◌≡◌};
 ghost use Rattle.ak_core.specs.Journal;
 ghost use Rattle.ak_core.specs.Layout;
 
@@ -44,4 +51,24 @@ pub fn journals_are_sound()
     ensures all { (layout : Layout.Layout) (image : List ℕ) (past : History) (state : State) (journal : Journal.Journal)
         → HasJournal layout image past state journal
         → StopNamesBreak layout (runs_of layout image journal) (turns_of layout journal) journal.stop → IsStopped layout journal → Sound image layout journal }
+{}
+
+/// A journal that keeps the stop of its moves, by the outcomes of their last steps of the runtime, is stopped as the control state says,
+/// with the move to blame. So it is sound, where a stop for an unmapped page of the program names an access that forced a break.
+pub fn journals_are_stopped()
+    ensures stop { (layout : Layout.Layout) (image : List ℕ) (past : History) (state : State) (journal : Journal.Journal)
+        → KeepsJournal layout image past state journal → IsStopped layout journal }
+    ensures all { (layout : Layout.Layout) (image : List ℕ) (past : History) (state : State) (journal : Journal.Journal)
+        → KeepsJournal layout image past state journal
+        → StopNamesBreak layout (runs_of layout image journal) (turns_of layout journal) journal.stop → Sound image layout journal }
+{}
+
+/// After the build the machine has the empty journal; and one more move, which names the cause after it, has the journal with that move.
+pub fn moves_keep_journals()
+    ensures built { (layout : Layout.Layout) (image : List ℕ) (state : State) (journal : Journal.Journal) → IsValid layout → IsBuilt layout image state
+        → journal.moves ≡ [] → journal.answers ≡ [] → journal.events ≡ [] → journal.outputs ≡ [] → journal.stop ≡ None
+        → KeepsJournal layout image [] state journal }
+    ensures moves { (layout : Layout.Layout) (image : List ℕ) (past : History) (m : Move) (a : Answer) (event : Option Event) (outcome : RtTurn) (old new : State) (before after : Journal.Journal)
+        → KeepsJournal layout image past old before → NamesMoveCause layout old new m a event outcome
+        → HasOneMore layout past m a event outcome before after → KeepsJournal layout image ((m, a) ∷ past) new after }
 {}
