@@ -1,5 +1,5 @@
 -- The empty journal is that of the build, and the journal with one more move is that of the machine after it.
-use Rattle.std.proofs.Common.{◌≡◌, ℕ, List, [], ◌∷◌, ◌++◌, reverse, map, refl, ap, sym, ◌∙◌, append-nil}
+use Rattle.std.proofs.Common.{◌≡◌, ℕ, List, [], ◌∷◌, ◌++◌, map, refl, ap, sym, ◌∙◌, append-nil}
 use Rattle.std.proofs.lemmas.List.{reverse-append}
 use Rattle.std.proofs.lemmas.List.Elements.{filter_map-append}
 use Rattle.std.specs.Prelude.{Option, Some, None}
@@ -15,7 +15,7 @@ use Rattle.ak_relation.specs.State.MachineState.{State}
 use Rattle.ak_relation.specs.Program.Turns.{listed}
 use Rattle.ak_relation.specs.Premises.Built.{IsBuilt}
 use Rattle.ak_relation.specs.Relation.Causes.{NamesMoveCause}
-use Rattle.ak_relation.specs.Relation.MoveByMove.{moves_of, answers_of}
+use Rattle.ak_relation.specs.Relation.MoveByMove.{moves_of}
 use Rattle.ak_relation.specs.Relation.Stopping.{stop_by}
 use Rattle.ak_relation.specs.Relation.Keeping.{KeepsJournal, HasOneMore}
 

@@ -1,6 +1,6 @@
 -- The stop of a journal that keeps the stop of its moves is that of the control state, blamed by the history before the move in which the
 -- enclave stopped.
-use Rattle.std.proofs.Common.{◌≡◌, ℕ, List, [], ◌∷◌, ◌++◌, reverse, map, refl, ap, sym, ◌∙◌, subst, append-nil}
+use Rattle.std.proofs.Common.{◌≡◌, ℕ, List, [], ◌∷◌, reverse, refl, ap, sym, ◌∙◌, subst, append-nil}
 use Rattle.std.proofs.lemmas.List.{reverse-reverse}
 use Rattle.std.specs.Prelude.{Bool, true, false, not, Option, Some, None, is_some, ◌==◌, if◌then◌else◌}
 use Rattle.ak_core.specs.Layout.{Layout}
@@ -11,7 +11,6 @@ use Rattle.ak_core.specs.declared.event.Stop.{Stop}
 use Rattle.ak_core.specs.declared.event.StopCause.{StopCause}
 use Rattle.ak_core.specs.declared.event.StopCause.TheVariants.{Unmapped, RuntimeUnmapped, FetchNotHonoured, ResumedEarly, Stuck}
 use Rattle.ak_core.specs.declared.moves.Move.{Move}
-use Rattle.ak_core.specs.declared.moves.Answer.{Answer}
 use Rattle.ak_model.specs.Paging.Histories.{History}
 use Rattle.ak_model.specs.Kernels.Counted.{saved_count}
 use Rattle.ak_model.specs.Control.ControlState.{Cause, ByBreak, Named, Control, cssa, first_cause}

@@ -1,5 +1,5 @@
 -- The stop of a machine's moves, by the outcomes of their last steps of the runtime: what a journal keeps to be stopped rightly.
-use Rattle.std.specs.Prelude.{◌≡◌, ℕ, List, [], ◌∷◌, Option, Some, None, ◌==◌, if◌then◌else◌}
+use Rattle.std.specs.Prelude.{◌≡◌, ℕ, List, ◌∷◌, Option, Some, None, ◌==◌, if◌then◌else◌}
 use Rattle.ak_core.specs.Layout.{Layout}
 use Rattle.ak_core.specs.Journal.{Journal, first_stop}
 use Rattle.ak_core.specs.declared.event.Stop.{Stop}
