@@ -14,3 +14,5 @@ pub mod NamedBreaks
 pub mod SoundJournals
 pub mod TracedStops
 pub mod KeptJournals
+pub mod ReturnedValues
+pub mod StayingBreaks

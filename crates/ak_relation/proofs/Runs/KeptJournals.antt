@@ -20,7 +20,7 @@ use Rattle.ak_relation.specs.Relation.Stopping.{stop_by}
 use Rattle.ak_relation.specs.Relation.Keeping.{KeepsJournal, HasOneMore}
 
 -- one more at the end, as a list
-with_listed : (events : List Event) (event : Option Event) → events ++ listed event ≡ with_more events event
+pub with_listed : (events : List Event) (event : Option Event) → events ++ listed event ≡ with_more events event
 with_listed events None = append-nil events
 with_listed events (Some event) = refl
 

@@ -61,11 +61,11 @@ module _ (layout : Layout) (image : List ℕ) (past : History) (state : State) (
       ap (trace layout journal.events) moves_back ∙ ap (λ tape. trace layout tape (moves_of past)) (sym (append-nil journal.events)) ∙ r.traced [] tt
       ∙ ap (λ control. record { past = past; control = control }) (none_left r.control r.stands.laws.taken)
 
-  turns_end : turns_of layout journal ≡ r.turns
+  pub turns_end : turns_of layout journal ≡ r.turns
   turns_end =
       ap (program_turns layout journal.events) moves_back ∙ ap (λ tape. program_turns layout tape (moves_of past)) (sym (append-nil journal.events)) ∙ r.made_are [] tt
 
-  runs_end : runs_of layout image journal ≡ runs_at layout image r.control
+  pub runs_end : runs_of layout image journal ≡ runs_at layout image r.control
   runs_end = ap (λ (moment : Moment). flat_run layout image moment.control.returned) ends
 
   -- what holds of each turn of the moment holds of the journal's

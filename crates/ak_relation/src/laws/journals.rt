@@ -18,6 +18,7 @@ ghost use Rattle.ak_relation.specs.Premises.Built.{IsBuilt};
 ghost use Rattle.ak_relation.specs.Relation.Causes.{NamesMoveCause};
 ghost use Rattle.ak_relation.specs.Relation.Journals.{HasJournal, StopNamesBreak};
 ghost use Rattle.ak_relation.specs.Relation.Keeping.{HasOneMore, KeepsJournal};
+ghost use Rattle.ak_relation.specs.Relation.Stopping.{stop_by};
 ghost use Rattle.ak_relation.specs.State.MachineState.{State};
 ghost use Rattle.std.specs.Prelude.{List, None, Option, [], length, ℕ, ◌*◌, ◌∷◌, ◌≡◌};
 ghost use Rattle.ak_core.specs.Journal;
@@ -71,4 +72,14 @@ pub fn moves_keep_journals()
     ensures moves { (layout : Layout.Layout) (image : List ℕ) (past : History) (m : Move) (a : Answer) (event : Option Event) (outcome : RtTurn) (old new : State) (before after : Journal.Journal)
         → KeepsJournal layout image past old before → NamesMoveCause layout old new m a event outcome
         → HasOneMore layout past m a event outcome before after → KeepsJournal layout image ((m, a) ∷ past) new after }
+{}
+
+/// The break that a stop names stays named by each move: where the enclave had not stopped yet, the stop of the move is to name one.
+pub fn breaks_stay_named()
+    ensures { (layout : Layout.Layout) (image : List ℕ) (past : History) (m : Move) (a : Answer) (event : Option Event) (outcome : RtTurn) (old new : State) (before after : Journal.Journal)
+        → KeepsJournal layout image past old before → NamesMoveCause layout old new m a event outcome
+        → HasOneMore layout past m a event outcome before after
+        → StopNamesBreak layout (runs_of layout image before) (turns_of layout before) before.stop
+        → (before.stop ≡ None → StopNamesBreak layout (runs_of layout image after) (turns_of layout after) (stop_by layout past outcome))
+        → StopNamesBreak layout (runs_of layout image after) (turns_of layout after) after.stop }
 {}
