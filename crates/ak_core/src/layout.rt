@@ -162,4 +162,12 @@ impl Layout {
     {
         self.build
     }
+
+    /// The same layout of a sealed build. It is temporary: only such builds will stay.
+    pub fn sealed(mut self) -> Layout
+        ensures { result ≡ record self { build = Build.Sealed } }
+    {
+        self.build = Build::Sealed;
+        self
+    }
 }

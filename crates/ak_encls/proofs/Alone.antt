@@ -5,7 +5,7 @@ use Rattle.std.specs.List.{range_with_len}
 use Rattle.ak_model.specs.Paging.Tracking.{last_is_over}
 use Rattle.ak_track.specs.Steps.{Cycled, inside_by, cycles_by, incomplete_by}
 
-nobody : (n lp : ℕ) → inside_by (replicate n Cycled) lp ≡ false
+pub nobody : (n lp : ℕ) → inside_by (replicate n Cycled) lp ≡ false
 nobody zero lp = refl
 nobody (suc n) lp = nobody n lp
 

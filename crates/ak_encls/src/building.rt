@@ -170,6 +170,7 @@ impl Encls {
             → HasAbsorbed self.new.measure (absorbed ++ page_blocks (4096 * p.0) (flags_of PageType.Reg perm) bytes.now) }
         ensures stamps { self.new.stamps ≡ self.old.stamps }
         ensures count { length self.new.frames ≡ length self.old.frames }
+        ensures lengths { (g : ℕ) → length (frame_at self.new.frames g) ≡ (if g == f.0 then length bytes.now else length (frame_at self.old.frames g)) }
     {
         self.add_page(f, p, PageType::Reg, perm, bytes);
         // the cycle is over at once, and the page can be written out

@@ -25,7 +25,8 @@ use Rattle.ak_relation.specs.State.Tables.{TablesStand}
 use Rattle.ak_encls.specs.Enclave.{Enclave}
 use Rattle.ak_enclu.specs.EnterAnswers.{finds_tcs, finds_area, area_page, unless_outside, enter_answer, resume_answer}
 use Rattle.ak_pte.specs.Table.{pte_at}
-use Rattle.ak_enclu.specs.Machines.{mapping_of, IsMachine}
+use Rattle.ak_walk.specs.Mappings.{mapping_of}
+use Rattle.ak_enclu.specs.Machines.{IsMachine}
 use Rattle.ak_enclu.specs.Passing.{tcs_at}
 use Rattle.ak_enclu.specs.TcsBytes.{saved_of, pending_of}
 use Rattle.ak_enclu.specs.declared.cpu.Cpu.{Cpu}

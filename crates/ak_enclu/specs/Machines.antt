@@ -1,7 +1,6 @@
 -- When a processor, the page table and the paging part are those of a machine.
 use Rattle.std.specs.Prelude.{◌≡◌, ℕ, ◌<◌, List}
 use Rattle.ak_core.specs.Layout.{Layout}
-use Rattle.ak_model.specs.Paging.Holdings.{Mapping}
 use Rattle.ak_model.specs.Paging.Pages.{all_pages}
 use Rattle.ak_pte.specs.declared.table.Pte.{Pte}
 use Rattle.ak_tlb.specs.Fills.{HoldsFills}
@@ -9,11 +8,8 @@ use Rattle.ak_relation.specs.State.MachineState.{State, Processor}
 use Rattle.ak_encls.specs.Enclave.{Enclave}
 use Rattle.ak_encls.specs.Paging.{IsPaging}
 use Rattle.ak_pte.specs.Table.{pte_at}
+use Rattle.ak_walk.specs.Mappings.{mapping_of}
 use Rattle.ak_enclu.specs.declared.cpu.Cpu.{Cpu}
-
--- an entry of the page table
-abbrev pub mapping_of : Pte → Mapping
-mapping_of pte = record { frame = pte.frame.0; flags = pte.flags }
 
 -- the machine's processor is this one
 pub record IsProcessor (cpu : Cpu) (processor : Processor) : Type 0 where

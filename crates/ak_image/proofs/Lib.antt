@@ -10,11 +10,11 @@ pub mod Counts
 mod Whole
 mod Valid
 mod Filling
-mod Measured
+pub mod Measured
 mod Honest
 mod Lengths
 mod Rows
-mod Fields
+pub mod Fields
 mod CodeFields
 pub mod BuiltPages
 mod Told

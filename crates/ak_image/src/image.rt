@@ -1,8 +1,9 @@
 // Images of enclaves.
-ghost use Rattle.std.specs.Prelude.{◌≡◌, ◌<◌, ◌≤◌, ◌+◌, IfOk, OnOk, length, string_bytes};
+ghost use Rattle.std.specs.Prelude.{◌≡◌, ◌<◌, ◌≤◌, ◌+◌, ◌*◌, ◌/◌, ℕ, IfOk, OnOk, length, slice_index, string_bytes};
 ghost use Rattle.ak_image.specs.Built.{page_bytes, secinfo_of, digest_of};
 ghost use Rattle.ak_image.specs.Image;
-ghost use Rattle.ak_core.specs.Layout.{IsValid};
+ghost use Rattle.std.specs.List.{All};
+ghost use Rattle.ak_core.specs.Layout.{IsValid, enclave_size};
 ghost use Rattle.ak_image.specs.Image.{IsWhole, layout_of};
 
 use crate::built::{TCS, copy_page, fill_code, fill_tcs, fill_zeros, regular};
@@ -103,8 +104,16 @@ impl Image {
     pub fn pages(&self) -> u32
         ensures pages { result ≡ length self.now.perms }
         ensures whole { IsWhole self.now }
+        ensures bytes { All (λ v. v < 256) self.now.bytes }
     {
-        self.perms.len() as u32
+        whole_pages(&self.bytes)
+    }
+
+    /// The size of the enclave in bytes.
+    pub fn size(&self) -> u64
+        ensures { result ≡ enclave_size (length self.now.perms) }
+    {
+        enclave_size(u64::from(self.pages()))
     }
 
     /// The most program pages that may be in at once.
@@ -192,7 +201,7 @@ impl Image {
         ensures { result ≡ digest_of self.now }
     {
         let pages = self.pages();
-        let mut measure = Measure::new(enclave_size(u64::from(pages)));
+        let mut measure = Measure::new(self.size());
         let mut bytes = [0u8; PAGE_SIZE];
         for page in 0..all_pages(pages) {
             self.fill(Page(page), &mut bytes);
@@ -204,4 +213,13 @@ impl Image {
         }
         measure.finish()
     }
+}
+
+/// How many pages these bytes fill.
+fn whole_pages(bytes: &[u8]) -> u32
+    requires { length bytes.now ≤ 4096 * 512 }
+    ensures pages { result ≡ length bytes.now / 4096 }
+    ensures bytes { (k : ℕ) → slice_index bytes.now k < 256 }
+{
+    (bytes.len() / PAGE_SIZE) as u32
 }

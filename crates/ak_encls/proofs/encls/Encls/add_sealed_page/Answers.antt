@@ -1,5 +1,6 @@
-use Rattle.std.proofs.Common.{◌≡◌, ◌++◌, ◌*◌, ◌==◌, if◌then◌else◌, set, ap, sym, ◌∙◌, subst}
+use Rattle.std.proofs.Common.{◌≡◌, ℕ, ◌<◌, ◌++◌, ◌*◌, ◌==◌, if◌then◌else◌, List, length, set, inl, inr, ap, sym, ◌∙◌, subst}
 use Rattle.std.specs.Prelude.{Some}
+use Rattle.std.proofs.lemmas.Bool.Decides.{eqb_tells}
 use Rattle.std.proofs.lemmas.List.{set-set}
 use Rattle.ak_core.specs.declared.page.PageType.TheVariants.{Reg}
 use Rattle.ak_epcm.specs.Entries.{free_entry, entry_at}
@@ -10,7 +11,7 @@ use Rattle.ak_measure.specs.declared.measurement.Measure.{Measure}
 use Rattle.ak_sealed.specs.SealedPages.{sealed_page_of, sealed_page_at}
 use Rattle.ak_encls.specs.Building.{added_entry}
 use Rattle.ak_encls.specs.Enclave.{Enclave, frame_at}
-use Rattle.ak_encls.proofs.SlotChanges.{entry_same, frame_same}
+use Rattle.ak_encls.proofs.SlotChanges.{entry_same, frame_same, frame_other}
 use Rattle.ak_encls.proofs.encls.Encls.add_sealed_page.Goals as goal
 
 pub returns-clause-entries : goal.returns-clause-entries
@@ -44,3 +45,20 @@ returns-clause-measure c = λ absorbed was.
     let same = ap (λ (e : Enclave). e.measure) c.seal_into.ensures.rest ∙ ap (λ (e : Enclave). e.measure) c.cycle_alone.ensures.rest in
     let P : Measure → Type 0 = λ m. HasAbsorbed m (absorbed ++ page_blocks (4096 * c.args.p.0) (secinfo Reg c.args.perm) c.args.bytes.now) in
     subst P (sym same) (c.add_page.ensures.measure absorbed was)
+
+-- each frame is as long as it was, but for the one that was set
+set_lengths : (frames : List (List ℕ)) (f : ℕ) (bytes : List ℕ) → f < length frames → (g : ℕ) →
+    length (frame_at (set frames f bytes) g) ≡ (if g == f then length bytes else length (frame_at frames g))
+set_lengths frames f bytes within g =
+    elim (eqb_tells g f) [
+      | inl same ↦ ap (λ k. length (frame_at (set frames f bytes) k)) same.1 ∙ ap length (frame_same frames f bytes within)
+          ∙ sym (ap (λ b. if b then length bytes else length (frame_at frames g)) same.0)
+      | inr other ↦ ap length (frame_other frames f g bytes other.1) ∙ sym (ap (λ b. if b then length bytes else length (frame_at frames g)) other.0)
+    ]
+
+pub returns-clause-lengths : goal.returns-clause-lengths
+returns-clause-lengths c = λ g.
+    c.seal_into.ensures.lengths g
+    ∙ ap (λ (e : Enclave). length (frame_at e.frames g)) c.cycle_alone.ensures.rest
+    ∙ ap (λ l. length (frame_at l g)) c.add_page.ensures.frames
+    ∙ set_lengths c.args.self.now.frames c.args.f.0 c.args.bytes.now c.add_page.ensures.in_frames g

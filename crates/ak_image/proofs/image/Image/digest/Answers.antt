@@ -8,16 +8,15 @@ use Rattle.ak_image.proofs.image.Image.digest.Goals as goal
 
 pub loop-page-init : goal.loop-page-init
 loop-page-init c =
-    let size : c.enclave_size.result ≡ enclave_size (pages_of c.args.self.now) = c.enclave_size.ensures ∙ ap enclave_size (c.from.ensures ∙ c.pages-pages.ensures.pages) in
-    subst (HasAbsorbed c.new-measure.result) (ap create_block size ∙ sym (blocks-none (enclave_size (pages_of c.args.self.now)))) c.new-measure.ensures
+    subst (HasAbsorbed c.new-measure.result) (ap create_block c.size.ensures ∙ sym (blocks-none (enclave_size (pages_of c.args.self.now)))) c.new-measure.ensures
 
 pub loop-page-preserved : goal.loop-page-preserved
 loop-page-preserved c =
     let image = c.args.self.now in
     let k = c.loop-page.page in
     let size = enclave_size (pages_of image) in
-    let same : blocks_of size (first_pages image k) ++ page_blocks (4096 * c.from-in-loop-page.result) c.secinfo.result c.fill.new.into ≡ blocks_of size (first_pages image (k + 1)) =
-    ap (λ (i : ℕ). blocks_of size (first_pages image k) ++ page_blocks (4096 * i) c.secinfo.result c.fill.new.into) c.from-in-loop-page.ensures
+    let same : blocks_of size (first_pages image k) ++ page_blocks (4096 * c.from.result) c.secinfo.result c.fill.new.into ≡ blocks_of size (first_pages image (k + 1)) =
+    ap (λ (i : ℕ). blocks_of size (first_pages image k) ++ page_blocks (4096 * i) c.secinfo.result c.fill.new.into) c.from.ensures
     ∙ (ap (λ (i : ℕ). blocks_of size (first_pages image k) ++ page_blocks (4096 * k) i c.fill.new.into) c.secinfo.ensures
     ∙ (ap (λ (l : List ℕ). blocks_of size (first_pages image k) ++ page_blocks (4096 * k) (secinfo_of image k) l) c.fill.ensures
     ∙ blocks-more image size k)) in

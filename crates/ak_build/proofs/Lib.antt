@@ -1,0 +1,10 @@
+pub mod Away
+pub mod Steps
+pub mod Begun
+pub mod Sealing
+pub mod Placing
+pub mod Mapped
+pub mod Entries
+pub mod SealedPages
+pub mod Copies
+pub mod Stands

@@ -1,0 +1,4 @@
+pub mod Runtime
+pub mod Mapping
+pub mod Adding
+pub mod Built
