@@ -1,8 +1,7 @@
 -- Accesses that are granted, and the frames of their pages.
-use Rattle.std.proofs.Common.{◌≡◌, ℕ, Bool, true, false, ◌&&◌, ◌||◌, ◌==◌, List, [], ◌∷◌, refl, sym, ◌∙◌, ap, subst, arith}
+use Rattle.std.proofs.Common.{◌≡◌, ℕ, Bool, true, false, ◌&&◌, ◌||◌, ◌==◌, List, [], ◌∷◌, refl, ◌∙◌, ap, subst}
 use Rattle.std.proofs.lemmas.Bool.{and_parts, or_left, or_right, eqb-true}
-use Rattle.std.proofs.lemmas.Bool.Decides.{nat_tests}
-use Rattle.std.specs.Prelude.{not, map, find, cond, Option, Some, None, is_some, if◌then◌else◌}
+use Rattle.std.specs.Prelude.{find, cond, Option, Some, None, is_some}
 use Rattle.std.specs.Bool.{then_some}
 use Rattle.std.specs.List.{list_any, list_all}
 use Rattle.std.specs.Option.{option_or}
@@ -90,10 +89,6 @@ refused_neither entries table cached t away = neither (frame_in (found cached t)
 pub frame_is : (o : Option Frame) (f : Frame) → is_frame o f ≡ true → o ≡ Some f
 frame_is None f h = cc
 frame_is (Some g) f h = ap (λ n. Some (record { 0 = n })) (eqb-true g.0 f.0 h)
-
--- the frame in which an access is granted, said of what was found
-pub is_frame_self : (f : Frame) → is_frame (Some f) f ≡ true
-is_frame_self f = let e : (f.0 == f.0) ≡ true = grind (arith, nat_tests) in e
 
 -- a spot's access is granted in its frame
 pub spot_granted : (entries : List Entry) (table : List Pte) (cached : List Translation) (spot : Spot) → is_spot entries table cached spot ≡ true

@@ -1,18 +1,16 @@
 -- Bytes that were put into the frame of a page.
 use Rattle.std.proofs.Math.Path.{fun_ext}
-use Rattle.std.proofs.Common.{◌≡◌, ◌≢◌, ℕ, ◌+◌, ◌≤◌, ◌<◌, Bool, true, false, ◌==◌, List, ◌++◌, length, set, refl, sym, ◌∙◌, ap, subst, inl, inr, arith, length-append, length-drop}
+use Rattle.std.proofs.Common.{◌≡◌, ◌≢◌, ℕ, ◌+◌, ◌≤◌, ◌<◌, true, List, length, refl, sym, ◌∙◌, ap, subst, inl, inr, arith, length-append, length-drop}
 use Rattle.std.proofs.lemmas.Bool.Decides.{eqb_tells}
 use Rattle.std.proofs.lemmas.List.{length-take, take-append-le, take_all}
-use Rattle.std.proofs.Math.ListN.{length-set}
 use Rattle.std.specs.Prelude.{Option, Some, None, slice_set, if◌then◌else◌}
 use Rattle.ak_core.specs.Mem.{with_page, put_at}
 use Rattle.ak_core.specs.declared.page.Entry.{Entry}
-use Rattle.ak_epcm.specs.Entries.{entry_at, has_page, is_of_page, frame_with, HasDistinctPages}
-use Rattle.ak_epcm.proofs.PageFrames.{frame_with-has, frame_with-holds, has_page_of_page, has_one}
+use Rattle.ak_epcm.specs.Entries.{entry_at, has_page, frame_with, HasDistinctPages}
+use Rattle.ak_epcm.proofs.PageFrames.{frame_with-has, frame_with-holds, has_one}
 use Rattle.ak_encls.specs.Enclave.{Enclave, frame_at}
-use Rattle.ak_encls.proofs.SlotChanges.{frame_same, frame_other, lengths_stay}
+use Rattle.ak_encls.proofs.SlotChanges.{frame_same, frame_other}
 use Rattle.ak_memory.specs.Granting.{bytes_found, bytes_of, whole_page}
-use Rattle.ak_memory.specs.Keeping.{KeepsFrames}
 
 -- 4096 bytes are a whole page
 pub whole_page-is : (bytes : List ℕ) → length bytes ≡ 4096 → whole_page bytes ≡ bytes
@@ -60,21 +58,6 @@ pub put_bytes_of : (old new : Enclave) (f p : ℕ) (bytes : List ℕ) → new �
     → (λ q. whole_page (bytes_of new.frames new.entries q)) ≡ with_page (λ q. whole_page (bytes_of old.frames old.entries q)) p bytes
 put_bytes_of old new f p bytes put within is whole =
     ap (λ (e : Enclave). λ q. whole_page (bytes_of e.frames e.entries q)) put ∙ bytes_set old.frames old.entries f p bytes within is whole
-
-away_differs : (entries : List Entry) (f g : ℕ) → is_of_page (entry_at entries f) ≡ true → is_of_page (entry_at entries g) ≡ false → g ≢ f
-away_differs entries f g page away same = let wrong = ap (λ i. is_of_page (entry_at entries i)) same in cc
-
--- only that frame changed
-pub put_keeps : (old new : Enclave) (f : ℕ) (bytes : List ℕ) → new ≡ record old { frames = slice_set old.frames f bytes } → f < length old.frames
-    → is_of_page (entry_at old.entries f) ≡ true → length bytes ≡ length (frame_at old.frames f) → KeepsFrames old new
-put_keeps old new f bytes put within page size =
-    subst (KeepsFrames old) (sym put)
-    (record {
-      rest = refl;
-      count = length-set old.frames f bytes;
-      lengths = lengths_stay old.frames f bytes (frame_at old.frames f) within refl size;
-      others = λ g away. frame_other old.frames f g bytes (away_differs old.entries f g page away);
-    })
 
 -- bytes in place of others
 pub length-put_at : (bytes : List ℕ) (place : ℕ) (new : List ℕ) → place + length new ≤ length bytes → length (put_at bytes place new) ≡ length bytes

@@ -9,7 +9,6 @@ use Rattle.std.specs.List.{list_any, list_all}
 use Rattle.ak_core.specs.Mem.{Access, access_to}
 use Rattle.ak_core.specs.declared.page.Entry.{Entry}
 use Rattle.ak_core.specs.declared.page.Frame.{Frame}
-use Rattle.ak_core.specs.declared.page.Kind.{Kind}
 use Rattle.ak_core.specs.declared.page.Kind.TheVariants.{Read, Write, Exec}
 use Rattle.ak_epcm.specs.Entries.{entry_at, has_page, frame_with}
 use Rattle.ak_pte.specs.Table.{pte_at}

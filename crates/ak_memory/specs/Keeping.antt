@@ -1,13 +1,12 @@
 -- What no access changes of a memory, beside the bytes of pages.
 use Rattle.std.specs.Prelude.{◌≡◌, ℕ, Bool, false, List, length, refl}
-use Rattle.std.proofs.Common.{◌∙◌, ap, sym, subst}
-use Rattle.ak_core.specs.declared.page.Entry.{Entry}
+use Rattle.std.proofs.Common.{◌∙◌, ap}
 use Rattle.ak_epcm.specs.Entries.{entry_at, is_of_page}
 use Rattle.ak_pte.specs.declared.table.Pte.{Pte}
 use Rattle.ak_tlb.specs.declared.translation.Translation.{Translation}
 use Rattle.ak_encls.specs.Enclave.{Enclave, frame_at}
 
--- from one enclave to another, only bytes of frames that hold pages of the enclave change, and no frame's length
+-- of an enclave only bytes of frames that hold its pages change, and no frame's length
 pub record KeepsFrames (old new : Enclave) : Type 0 where
   pub rest : new ≡ record old { frames = new.frames }
   pub count : length new.frames ≡ length old.frames
@@ -27,7 +26,7 @@ keeps_frames-on a b c first then = record {
   others = λ g away. then.others g (ap (λ (e : Enclave). is_of_page (entry_at e.entries g)) first.rest ∙ away) ∙ first.others g away;
 }
 
--- so it is with a memory: the page table, what is cached, and whether it is used also stay
+-- so it is of a memory, and the page table, what is cached, and whether accesses use it stay too
 pub record KeepsAround (old new : Enclave) (table table' : List Pte) (cached cached' : List Translation) (uses uses' : Bool) : Type 0 where
   pub encls : KeepsFrames old new
   pub mapped : table' ≡ table

@@ -1,5 +1,5 @@
 -- The accesses that a memory granted in a turn, each with its frame.
-use Rattle.std.specs.Prelude.{ℕ, Bool, false, not, ◌&&◌, List, ◌∷◌, map, filter, reverse, Option, Some, None, is_some, ◌==◌, if◌then◌else◌}
+use Rattle.std.specs.Prelude.{Bool, false, not, ◌&&◌, List, ◌∷◌, map, filter, reverse, Option, Some, None, is_some, ◌==◌, if◌then◌else◌}
 use Rattle.ak_core.specs.Mem.{Access}
 use Rattle.ak_core.specs.declared.page.Entry.{Entry}
 use Rattle.ak_core.specs.declared.page.Frame.{Frame}

@@ -53,6 +53,8 @@ impl Memory {
         ensures table { result.table ≡ table }
         ensures tlb { result.tlb ≡ [] }
         ensures uses_cache { result.uses_cache ≡ false }
+        ensures touched { result.touched.items ≡ [] }
+        ensures denied { result.denied ≡ None }
     {
         // No two frames of an EPCM hold one page.
         let _secs = encls.epcm().entry(Frame(0));

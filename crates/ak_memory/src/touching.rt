@@ -22,8 +22,8 @@ impl Memory {
         self.walked_frame(t).is_some()
     }
 
-    /// What was granted and refused in this turn is so by the tables and by what is cached: each access that was granted is, what was
-    /// not cached of it is found by a walk, and of the refused one nothing is cached, and no walk finds it.
+    /// Of the accesses of this turn: each that was granted has a cached translation, where accesses use those, or is found by a walk;
+    /// those of them that are not cached are found by walks; and of the refused one nothing is cached, and no walk finds it.
     pub fn touches_follow_the_tables(&self)
         ensures granted { list_all (is_granted self.now.encls.entries self.now.table (in_use self.now.uses_cache self.now.tlb)) (accesses_in self.now.touched.items) ≡ true }
         ensures walked { list_all (is_walked self.now.encls.entries self.now.table) (walked_of (in_use self.now.uses_cache self.now.tlb) (accesses_in self.now.touched.items)) ≡ true }

@@ -1,8 +1,8 @@
-use Rattle.std.proofs.Common.{◌≡◌, false, List, ◌++◌, ◌∷◌, [], get_or, take, ap, sym, ◌∙◌, subst}
+use Rattle.std.proofs.Common.{false, ◌++◌, get_or, take, ap, sym, ◌∙◌, subst}
 use Rattle.std.proofs.lemmas.List.{take_more}
 use Rattle.ak_core.specs.declared.page.Kind.TheVariants.{Read}
-use Rattle.ak_tlb.specs.Fills.{Fill, HoldsFills}
-use Rattle.ak_memory.specs.Spots.{spot_fills, spot_names_page, fills_after}
+use Rattle.ak_tlb.specs.Fills.{HoldsFills}
+use Rattle.ak_memory.specs.Spots.{spot_fills, spot_names_page}
 use Rattle.ak_memory.specs.declared.spot.Spot.{Spot}
 use Rattle.ak_memory.proofs.Cached.{fills_more, fills_after-append, passes_at}
 use Rattle.ak_memory.proofs.caching.fill_walked.Goals as goal

@@ -1,4 +1,4 @@
-use Rattle.std.proofs.Common.{length, ap, sym, ◌∙◌, slice_set, length-set}
+use Rattle.std.proofs.Common.{ap, sym, ◌∙◌, slice_set, length-set}
 use Rattle.ak_core.specs.Mem.{with_page}
 use Rattle.ak_encls.specs.Enclave.{frame_at}
 use Rattle.ak_memory.specs.Granting.{bytes_of, whole_page}

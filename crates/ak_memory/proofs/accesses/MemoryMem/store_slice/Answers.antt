@@ -1,4 +1,4 @@
-use Rattle.std.proofs.Common.{length, ap, sym, ◌∙◌, arith}
+use Rattle.std.proofs.Common.{ap, sym, ◌∙◌, arith}
 use Rattle.ak_core.specs.Mem.{with_page, put_at}
 use Rattle.ak_encls.specs.Enclave.{frame_at}
 use Rattle.ak_memory.specs.Granting.{bytes_of, whole_page}

@@ -1,4 +1,4 @@
-use Rattle.std.proofs.Common.{◌≡◌, true, ◌++◌, ap, sym, ◌∙◌, subst}
+use Rattle.std.proofs.Common.{◌≡◌, true, ◌++◌, ap, ◌∙◌, subst}
 use Rattle.std.specs.List.{list_all}
 use Rattle.ak_tlb.specs.Fills.{HoldsFills}
 use Rattle.ak_memory.specs.Granting.{in_use}
