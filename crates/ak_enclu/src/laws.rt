@@ -53,16 +53,16 @@ pub fn answers_are_rows()
         ≡ resume_row layout state cpu.lp.0 }
 {}
 
-/// What an entering or a resuming leaves is what it does to the machine, where the tables stand and there is an area.
+/// What an entering or a resuming leaves is what it does to the machine, where each frame has 4096 bytes and there is an area.
 pub fn entering_changes()
-    ensures enter { (layout : Layout) (past : History) (state : State) (cpu : TheCpu) (table : List Pte) (encls new : Enclave) (v : ℕ) → TablesStand layout past state
+    ensures enter { (layout : Layout) (state : State) (cpu : TheCpu) (table : List Pte) (encls new : Enclave) (v : ℕ) → FramesStand state.frames
         → IsMachine layout cpu table encls state → saved_of (tcs_at encls table (tcs_page layout)) ≤ 2
         → EntersTo cpu.lp.0 (pte_at table (tcs_page layout)).frame.0 (with_pending false (tcs_at encls table (tcs_page layout))) encls new
         → LeadsToWhere layout
         (inside_with cpu (entry_regs_at (layout.base + 4096 * code_page layout) (saved_of (tcs_at encls table (tcs_page layout))) v)
         (held_at table (tcs_page layout) (saved_of (tcs_at encls table (tcs_page layout)))))
         table new (EntersAt layout cpu.lp.0 (saved_of (tcs_at encls table (tcs_page layout))) v state) }
-    ensures resume { (layout : Layout) (past : History) (state : State) (cpu : TheCpu) (table : List Pte) (encls new : Enclave) → TablesStand layout past state
+    ensures resume { (layout : Layout) (state : State) (cpu : TheCpu) (table : List Pte) (encls new : Enclave) → FramesStand state.frames
         → IsMachine layout cpu table encls state → IsTcs (saved_of (tcs_at encls table (tcs_page layout))) false (tcs_at encls table (tcs_page layout))
         → saved_of (tcs_at encls table (tcs_page layout)) ≤ 3 → 0 < saved_of (tcs_at encls table (tcs_page layout))
         → EntersTo cpu.lp.0 (pte_at table (tcs_page layout)).frame.0

@@ -1,36 +1,58 @@
 -- Which plain values a machine has, and that it stands for some history.
-use Rattle.std.specs.Prelude.{◌≡◌, ℕ, ◌<◌, List, Some, slice_get}
+use Rattle.std.specs.Prelude.{◌≡◌, ℕ, ◌<◌, ◌≤◌, false, List, length, Some, slice_get}
 use Rattle.ak_core.specs.Layout.{Layout}
+use Rattle.ak_core.specs.declared.build.Build.{Build}
 use Rattle.ak_model.specs.Control.ControlState.{Control}
 use Rattle.ak_model.specs.Paging.Histories.{History}
 use Rattle.ak_model.specs.Paging.Pages.{all_pages}
 use Rattle.ak_model.specs.Tapes.ProgramTurns.{ProgramTurn}
 use Rattle.ak_pte.specs.Table.{pte_at}
 use Rattle.ak_pte.specs.declared.table.Pte.{Pte}
+use Rattle.ak_walk.specs.Mappings.{mapping_of}
 use Rattle.ak_relation.specs.Relation.Does.{at_moment}
 use Rattle.ak_relation.specs.Relation.Stands.{Stands}
 use Rattle.ak_relation.specs.State.MachineState.{State}
 use Rattle.ak_encls.specs.Enclave.{Enclave}
 use Rattle.ak_encls.specs.Paging.{IsPaging}
-use Rattle.ak_enclu.specs.Machines.{IsProcessor, mapping_of}
+use Rattle.ak_enclu.specs.Machines.{IsProcessor}
 use Rattle.ak_enclu.specs.declared.cpu.Cpu.{Cpu}
+use Rattle.ak_memory.specs.declared.memory.Memory.{Memory}
 
--- these processors, by their numbers
-abbrev pub AreProcessors : List Cpu → State → Type 0
-AreProcessors cpus state = (lp : ℕ) (cpu : Cpu) → slice_get cpus lp ≡ Some cpu → (cpu.lp.0 ≡ lp) × IsProcessor cpu (state.processors lp)
+-- the parts of a machine: what the kernel may know, the paging part, the page table, and the processors
+pub record Parts : Type 0 where
+  pub layout : Layout
+  pub encls : Enclave
+  pub table : List Pte
+  pub cpus : List Cpu
 
--- the machine has this paging part, this page table and these processors
-pub record IsState (layout : Layout) (encls : Enclave) (table : List Pte) (cpus : List Cpu) (state : State) : Type 0 where
-  pub paging : IsPaging layout encls state
-  pub mapped : (p : ℕ) → p < all_pages layout → state.table p ≡ mapping_of (pte_at table p)
-  pub processors : AreProcessors cpus state
+-- the parts, by the memory that has two of them
+abbrev pub parts_of : Layout → Memory → List Cpu → Parts
+parts_of layout memory cpus = record { layout = layout; encls = memory.encls; table = memory.table; cpus = cpus }
+
+-- these processors, by their numbers, and no others are inside
+pub record AreProcessors (cpus : List Cpu) (state : State) : Type 0 where
+  pub each : (lp : ℕ) (cpu : Cpu) → slice_get cpus lp ≡ Some cpu → (cpu.lp.0 ≡ lp) × IsProcessor cpu (state.processors lp)
+  pub no_more : (lp : ℕ) → length cpus ≤ lp → (state.processors lp).inside ≡ false
+
+-- the machine of these parts is in this state
+pub record IsState (parts : Parts) (state : State) : Type 0 where
+  pub paging : IsPaging parts.layout parts.encls state
+  pub mapped : (p : ℕ) → p < all_pages parts.layout → state.table p ≡ mapping_of (pte_at parts.table p)
+  pub processors : AreProcessors parts.cpus state
 
 -- such a machine stands at a moment of a trace
-pub record StandsSomewhere (layout : Layout) (encls : Enclave) (table : List Pte) (cpus : List Cpu) : Type 0 where
+pub record StandsSomewhere (parts : Parts) : Type 0 where
   pub image : List ℕ
   pub past : History
   pub control : Control
   pub turns : List ProgramTurn
   pub state : State
-  pub machine : IsState layout encls table cpus state
-  pub stands : Stands layout image (at_moment past control turns state)
+  pub machine : IsState parts state
+  pub stands : Stands parts.layout image (at_moment past control turns state)
+
+-- it does, in a sealed layout, with as many processors and entries of the page table as the layout says
+pub record IsSound (parts : Parts) : Type 0 where
+  pub sealed : parts.layout.build ≡ Build.Sealed
+  pub each : length parts.cpus ≡ parts.layout.lps
+  pub sized : length parts.table ≡ all_pages parts.layout
+  pub somewhere : StandsSomewhere parts

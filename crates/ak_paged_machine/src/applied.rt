@@ -1,9 +1,8 @@
 // What a move came to.
 ghost use Rattle.std.specs.Prelude.{◌≡◌};
-ghost use Rattle.ak_turns.specs.declared.notes.ProgramNote.TheVariants.{Plain};
-ghost use Rattle.ak_turns.specs.declared.notes.RuntimeNote.TheVariants.{Quiet};
+ghost use Rattle.ak_paged_machine.specs.Moves.{plainly};
 
-use ak_core::{Answer, Exit};
+use ak_core::Answer;
 use ak_turns::{ProgramNote, Ran, RuntimeNote};
 
 /// What a move came to.
@@ -22,7 +21,7 @@ pub struct Applied {
 impl Applied {
     /// A move in which no turn was made.
     pub(crate) fn plainly(answer: Answer) -> Applied
-        ensures { result ≡ record { answer = answer; completed = 0; program = Plain; runtime = Quiet } }
+        ensures { result ≡ plainly answer }
     {
         Applied {
             answer,
@@ -33,8 +32,8 @@ impl Applied {
     }
 
     /// A run of turns.
-    pub(crate) fn run(ran: Ran) -> Applied
-        ensures { result ≡ record { answer = TheAnswer.Exit ran.exit; completed = ran.completed; program = ran.program; runtime = ran.runtime } }
+    pub(crate) fn of_run(ran: Ran) -> Applied
+        ensures { result ≡ record { answer = Answer.Exit ran.exit; completed = ran.completed; program = ran.program; runtime = ran.runtime } }
     {
         Applied {
             answer: Answer::Exit(ran.exit),

@@ -3,7 +3,6 @@
 #![tactic(auto)]
 
 mod applied;
-mod build;
 mod entering;
 mod kernel;
 mod machine;

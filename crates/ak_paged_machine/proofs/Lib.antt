@@ -1,0 +1,4 @@
+mod Sound
+mod Plain
+mod Entries
+mod Leaves
