@@ -1,7 +1,7 @@
 -- A turn that goes on shows a call or nothing; after a call the leave step is next, and its turn leaves and shows nothing.
-use Rattle.std.proofs.Common.{◌≡◌, ℕ, zero, suc, List, [], ◌∷◌, ◌++◌, refl, ap, sym, ◌∙◌, subst}
+use Rattle.std.proofs.Common.{◌≡◌, ℕ, zero, suc, List, [], ◌∷◌, refl, ap, sym, ◌∙◌, subst}
 use Rattle.std.proofs.lemmas.List.{reverse-reverse}
-use Rattle.std.specs.Prelude.{Bool, true, false, Option, Some, None, reverse, is_some, ◌==◌, if◌then◌else◌}
+use Rattle.std.specs.Prelude.{Bool, true, false, Option, Some, None, reverse, is_some, ◌==◌}
 use Rattle.ak_core.specs.Layout.{Layout}
 use Rattle.ak_core.specs.Mem.{Access}
 use Rattle.ak_core.specs.declared.event.Event.{Event}

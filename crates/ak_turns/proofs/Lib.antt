@@ -3,3 +3,4 @@ mod GoingOn
 mod ProgramTurns
 mod Steps
 mod WholeRuns
+mod CachedPages

@@ -1,32 +1,34 @@
 -- Turns, one after another, lead to a run: one more turn goes on with those before it, and the last one ends the run.
-use Rattle.std.proofs.Common.{◌≡◌, ℕ, suc, ◌+◌, ◌-◌, ◌<◌, Bool, true, false, List, [], ◌∷◌, ◌++◌, refl, ap, sym, ◌∙◌, subst, arith, ◌==◌}
+use Rattle.std.proofs.Common.{◌≡◌, ℕ, suc, ◌+◌, ◌-◌, ◌<◌, Bool, true, false, List, [], ◌++◌, refl, ap, sym, ◌∙◌, subst, arith}
+use Rattle.std.proofs.lemmas.Bool.Decides.{nat_tests}
 use Rattle.std.specs.Prelude.{Option, Some, None, is_some, nat_lt, if◌then◌else◌}
 use Rattle.ak_core.specs.Layout.{Layout}
 use Rattle.ak_core.specs.Mem.{Access}
 use Rattle.ak_core.specs.declared.event.Event.{Event}
 use Rattle.ak_core.specs.declared.event.Event.TheVariants.{Call, Miss, Trap, Break}
-use Rattle.ak_core.specs.declared.moves.Answer.{Answer}
 use Rattle.ak_core.specs.declared.moves.Exit.{Exit}
-use Rattle.ak_core.specs.declared.moves.Move.TheVariants.{Run}
 use Rattle.ak_core.specs.declared.page.Lp.{Lp}
 use Rattle.ak_model.specs.Clusters.Queue.{is_in}
-use Rattle.ak_model.specs.Control.ControlState.{Context, Leave}
+use Rattle.ak_model.specs.Control.ControlState.{Context}
 use Rattle.ak_model.specs.Flat.FlatRuns.{is_forbidden}
 use Rattle.ak_model.specs.Paging.Inside.{inside}
 use Rattle.ak_model.specs.Paging.Pages.{cluster_at}
 use Rattle.ak_model.proofs.Paging.Tests.{either_way}
-use Rattle.ak_pager.specs.declared.turn.RtTurn.{RtTurn}
+use Rattle.ak_pte.specs.declared.table.Pte.{Pte}
+use Rattle.ak_tlb.specs.declared.translation.Translation.{Translation}
 use Rattle.ak_relation.proofs.Runs.WholeRuns.{still_moves, exit_moves}
 use Rattle.ak_relation.proofs.Runs.NamedMoves.{still_names, exit_names}
 use Rattle.ak_relation.specs.Program.Turns.{listed, events_by}
-use Rattle.ak_relation.specs.Relation.Causes.{NamesCause, NamesMoveCause}
-use Rattle.ak_relation.specs.Relation.Does.{GoesTo, IsMove, IsTurn, TurnFollows, at_moment, past_after, with_rest}
+use Rattle.ak_relation.specs.Relation.Causes.{NamesCause}
+use Rattle.ak_relation.specs.Relation.Does.{GoesTo, IsTurn, TurnFollows, at_moment, past_after, with_rest}
 use Rattle.ak_relation.specs.Relation.TurnByTurn.{AreTurns}
 use Rattle.ak_relation.specs.State.MachineState.{State}
+use Rattle.ak_encls.specs.Enclave.{Enclave}
+use Rattle.ak_enclu.specs.Machines.{IsMachine}
 use Rattle.ak_enclu.specs.declared.cpu.Cpu.{Cpu}
 use Rattle.ak_memory.specs.declared.memory.Memory.{Memory}
-use Rattle.ak_turns.specs.Running.{IsRunning, Runs, TellsOf, TurnsTo, completed_in, event_of, fault_event, outcome_of}
-use Rattle.ak_turns.specs.WholeRuns.{GoesWith, RunsSoFar, RunsTo, RunsWith, event_after, note_or}
+use Rattle.ak_turns.specs.Running.{Runs, TellsOf, TurnKeeps, TurnsTo, completed_in, event_of, fault_event, outcome_of}
+use Rattle.ak_turns.specs.WholeRuns.{GoesWith, RunsSoFar, RunsTo, RunsWith, StillRuns, event_after, note_or}
 use Rattle.ak_turns.specs.declared.notes.ProgramNote.{ProgramNote}
 use Rattle.ak_turns.specs.declared.notes.Ran.{Ran}
 use Rattle.ak_turns.specs.declared.notes.RuntimeNote.{RuntimeNote}
@@ -98,9 +100,10 @@ module _ (layout : Layout) (note : ProgramNote) (cpu cpu' : Cpu) (memory memory'
   after_call b a is =
       let g = goes_to in
       let now : GoesWith (ProgramNote.Called b a) w.runs.control.now = subst (λ n. GoesWith n w.runs.control.now) is w.goes in
-      let follows = g.does.traced [] tt in
-      (leaves layout cpu.lp.0 w.runs.past (with_rest w.runs.control (events_by g.made ++ [])) (with_rest g.control []) turned.exit g.made b a now follows,
-       no_note turned.program (leave_is_quiet layout cpu.lp.0 w.runs.past (with_rest w.runs.control (events_by g.made ++ [])) (with_rest g.control []) turned.exit its_event g.made b a now follows g.told))
+      let follows = g.does.traced [] tt in (
+        leaves layout cpu.lp.0 w.runs.past (with_rest w.runs.control (events_by g.made ++ [])) (with_rest g.control []) turned.exit g.made b a now follows,
+        no_note turned.program (leave_is_quiet layout cpu.lp.0 w.runs.past (with_rest w.runs.control (events_by g.made ++ [])) (with_rest g.control []) turned.exit its_event g.made b a now follows g.told),
+      )
     where
       no_note : (program : ProgramNote) → event_of layout w.runs.state.queue w.runs.state.count program ≡ None → program ≡ ProgramNote.Plain
       no_note ProgramNote.Plain e = refl
@@ -185,9 +188,14 @@ module _ (layout : Layout) (lp : Lp) (taken completed : ℕ) (note : ProgramNote
     others = λ q other. to.others q other ∙ so_far.others q other;
     count = count_after ∙ ap (λ n. old.count + n) (sym sum);
     queue = to.queue stays ∙ so_far.queue;
-    turns = subst (λ n. AreTurns layout lp.0 n old to.new (event_after layout old.queue to.new.count (note_or turned.program note))) (sym more)
-        (so_far.new, event_after layout old.queue so_far.new.count note, event_of layout so_far.new.queue so_far.new.count turned.program, so_far.turns,
-         subst (λ (exit : Option Exit). IsTurn layout lp.0 so_far.new to.new exit (event_of layout so_far.new.queue so_far.new.count turned.program)) stays to.turn, both);
+    turns = subst (λ n. AreTurns layout lp.0 n old to.new (event_after layout old.queue to.new.count (note_or turned.program note))) (sym more) (
+      so_far.new,
+      event_after layout old.queue so_far.new.count note,
+      event_of layout so_far.new.queue so_far.new.count turned.program,
+      so_far.turns,
+      subst (λ (exit : Option Exit). IsTurn layout lp.0 so_far.new to.new exit (event_of layout so_far.new.queue so_far.new.count turned.program)) stays to.turn,
+      both,
+    );
   }
 
   -- the last one, which leaves
@@ -224,3 +232,45 @@ all_taken layout lp all completed note old cpu memory so_far known in_use = reco
   move = still_moves layout lp old known in_use all so_far.new (event_after layout old.queue so_far.new.count note) so_far.turns;
   cause = still_names layout lp old known in_use all so_far.new (event_after layout old.queue so_far.new.count note) so_far.turns;
 }
+
+-- ---- The processor
+
+-- a processor that runs is inside, and so it is in each machine that has it
+pub runs_inside : (layout : Layout) (cpu : Cpu) (memory : Memory) → Runs layout cpu memory → cpu.inside ≡ true
+runs_inside layout cpu memory runs = sym runs.machine.processor.inside ∙ runs.stands.tables.presence.within cpu.lp.0 ∙ runs.within
+
+-- a number below another, as a test
+pub is_below : (n m : ℕ) → n < m → nat_lt n m ≡ true
+is_below n m lt = grind (arith, nat_tests)
+
+-- what a turn leaves, after what the turns before it left
+pub still_on : (exit : Option Exit) (cpu cpu' cpu'' : Cpu) (memory memory' memory'' : Memory) → StillRuns cpu cpu' memory memory' → TurnKeeps exit cpu' cpu'' memory' memory'' →
+    StillRuns cpu cpu'' memory memory''
+still_on exit cpu cpu' cpu'' memory memory' memory'' before turn = record {
+  cpu_is =
+      let is : cpu'' ≡ record cpu' { regs = cpu''.regs; inside = cpu''.inside; tlb = cpu''.tlb } =
+      turn.cpu_is ∙ ap (λ b. record cpu' { regs = cpu''.regs; inside = b; tlb = cpu''.tlb }) (sym (ap (λ (c : Cpu). c.inside) turn.cpu_is)) in
+      is ∙ ap (λ (c : Cpu). record c { regs = cpu''.regs; inside = cpu''.inside; tlb = cpu''.tlb }) before.cpu_is;
+  uncached = λ none. turn.uncached (before.uncached none);
+  table = turn.table ∙ before.table;
+  encls = turn.encls ∙ ap (λ (e : Enclave). record e { frames = memory''.encls.frames; track = memory''.encls.track }) before.encls;
+  cycles = turn.cycles ∙ before.cycles;
+}
+
+-- ---- Translations that move between a processor and the memory
+
+-- the machine is the same, with parts that are
+pub same_machine : (layout : Layout) (cpu : Cpu) (table table' : List Pte) (encls encls' : Enclave) (tlb : List Translation) (state : State) → IsMachine layout cpu table encls state →
+    tlb ≡ cpu.tlb → table' ≡ table → encls' ≡ encls → IsMachine layout (record cpu { tlb = tlb }) table' encls' state
+same_machine layout cpu table table' encls encls' tlb state m cached mapped paging =
+    subst (λ (x : List Translation). IsMachine layout (record cpu { tlb = x }) table' encls' state) (sym cached)
+    (subst (λ (x : List Pte). IsMachine layout cpu x encls' state) (sym mapped)
+    (subst (λ (x : Enclave). IsMachine layout cpu table x state) (sym paging) m))
+
+-- so the run leads there too
+pub same_run : (layout : Layout) (lp : Lp) (turns : ℕ) (old : State) (ran : Ran) (cpu : Cpu) (tlb tlb' : List Translation) (table table' : List Pte) (encls encls' : Enclave) →
+    RunsTo layout lp turns old ran (record cpu { tlb = tlb }) table encls → tlb' ≡ tlb → table' ≡ table → encls' ≡ encls → RunsTo layout lp turns old ran (record cpu { tlb = tlb' }) table' encls'
+same_run layout lp turns old ran cpu tlb tlb' table table' encls encls' to cached mapped paging =
+    subst (λ (x : List Translation). RunsTo layout lp turns old ran (record cpu { tlb = x }) table' encls') (sym cached)
+    (subst (λ (x : List Pte). RunsTo layout lp turns old ran (record cpu { tlb = tlb }) x encls') (sym mapped)
+    (subst (λ (x : Enclave). RunsTo layout lp turns old ran (record cpu { tlb = tlb }) table x) (sym paging) to))

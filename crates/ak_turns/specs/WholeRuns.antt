@@ -1,10 +1,9 @@
 -- A run of turns of a processor that is inside: it is a move of the definitions.
-use Rattle.std.specs.Prelude.{◌≡◌, ℕ, ◌+◌, ◌-◌, Bool, true, false, List, [], Option, Some, None, ◌==◌}
+use Rattle.std.specs.Prelude.{◌≡◌, ℕ, ◌+◌, ◌-◌, true, false, List, [], Option, Some, None, ◌==◌}
 use Rattle.ak_core.specs.Layout.{Layout}
 use Rattle.ak_core.specs.declared.event.Event.{Event}
 use Rattle.ak_core.specs.declared.event.Event.TheVariants.{Call, Trap}
 use Rattle.ak_core.specs.declared.moves.Answer.{Answer}
-use Rattle.ak_core.specs.declared.moves.Exit.{Exit}
 use Rattle.ak_core.specs.declared.moves.Move.TheVariants.{Run}
 use Rattle.ak_core.specs.declared.page.Lp.{Lp}
 use Rattle.ak_model.specs.Control.ControlState.{Context, Leave, Control}
@@ -53,15 +52,10 @@ pub record RunsTo (layout : Layout) (lp : Lp) (turns : ℕ) (old : State) (ran :
   pub move : IsMove layout old new (Run lp turns) (Answer.Exit ran.exit) (event_after layout old.queue new.count ran.program)
   pub cause : NamesMoveCause layout old new (Run lp turns) (Answer.Exit ran.exit) (event_after layout old.queue new.count ran.program) (outcome_of ran.runtime)
 
--- the processor has not left
-abbrev pub is_still : Exit → Bool
-is_still Exit.Still = true
-is_still _ = false
-
--- what a run leaves: the processor is outside where it left, holds the frames that it held, and is the one that it was; nothing is
--- cached in the memory; and of the memory's parts only bytes of frames and tracking differ
-pub record RunKeeps (exit : Exit) (cpu cpu' : Cpu) (old new : Memory) : Type 0 where
-  pub cpu_is : cpu' ≡ record cpu { regs = cpu'.regs; inside = is_still exit; tlb = cpu'.tlb }
+-- what a run leaves: the processor is the one that it was, and holds the frames that it held; nothing is cached in the memory; and of
+-- the memory's parts only bytes of frames and tracking differ
+pub record RunKeeps (cpu cpu' : Cpu) (old new : Memory) : Type 0 where
+  pub cpu_is : cpu' ≡ record cpu { regs = cpu'.regs; inside = cpu'.inside; tlb = cpu'.tlb }
   pub uncached : new.tlb ≡ []
   pub table : new.table ≡ old.table
   pub encls : new.encls ≡ record old.encls { frames = new.encls.frames; track = new.encls.track }

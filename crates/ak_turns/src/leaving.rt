@@ -30,8 +30,5 @@ pub(crate) fn leave(cpu: &mut Cpu, memory: &mut Memory, why: Why)
 pub(crate) fn fault_of(layout: &Layout, access: Fault) -> Why
     ensures { result ≡ why_of layout.now (ByPage access) }
 {
-    Why::PageFault(
-        layout.base() + 4096 * u64::from(access.page.0),
-        access.kind,
-    )
+    Why::PageFault(layout.base() + 4096 * u64::from(access.page.0), access.kind)
 }

@@ -1,10 +1,10 @@
 // Runs of turns.
-ghost use Rattle.std.specs.Prelude.{◌≡◌, ◌≤◌, ◌<◌, [], true, false};
+ghost use Rattle.std.specs.Prelude.{◌≡◌, ◌≤◌, ◌<◌, [], true};
 ghost use Rattle.ak_model.specs.Paging.Build.{steps_walk};
 ghost use Rattle.ak_relation.specs.State.MachineState.{State};
 ghost use Rattle.ak_enclu.specs.Machines.{IsMachine};
-ghost use Rattle.ak_turns.specs.Running.{IsRunning, Runs};
-ghost use Rattle.ak_turns.specs.WholeRuns.{RunKeeps, RunsTo, Stays, StillRuns, is_still, note_or};
+ghost use Rattle.ak_turns.specs.Running.{IsRunning, Runs, completed_in};
+ghost use Rattle.ak_turns.specs.WholeRuns.{RunKeeps, RunsTo, Stays, StillRuns, note_or};
 
 use crate::notes::{ProgramNote, Ran, RuntimeNote};
 use crate::turning::turn;
@@ -23,7 +23,7 @@ pub fn run(layout: &Layout, cpu: &mut Cpu, memory: &mut Memory, turns: u32) -> R
     requires uncached { memory.old.tlb ≡ [] }
     ensures run { (state : State) → IsMachine layout.now cpu.old memory.old.table memory.old.encls state
         → RunsTo layout.now cpu.old.lp turns state result cpu.new memory.new.table memory.new.encls }
-    ensures keeps { RunKeeps result.exit cpu.old cpu.new memory.old memory.new }
+    ensures keeps { RunKeeps cpu.old cpu.new memory.old memory.new }
     ensures few { result.completed ≤ turns }
 {
     memory.swap_cache(&mut cpu.tlb);
@@ -39,8 +39,6 @@ fn take_turns(layout: &Layout, cpu: &mut Cpu, memory: &mut Memory, turns: u32) -
     requires runs { Runs layout.now cpu.old memory.old }
     ensures run { (state : State) → IsRunning layout.now cpu.old memory.old state
         → RunsTo layout.now cpu.old.lp turns state result (record cpu.new { tlb = memory.new.tlb }) memory.new.table memory.new.encls }
-    ensures inside { cpu.new.inside ≡ is_still result.exit }
-    ensures flushed { cpu.new.inside ≡ false → memory.new.tlb ≡ [] }
     ensures keeps { StillRuns cpu.old cpu.new memory.old memory.new }
     ensures few { result.completed ≤ turns }
 {
@@ -48,7 +46,7 @@ fn take_turns(layout: &Layout, cpu: &mut Cpu, memory: &mut Memory, turns: u32) -
     let mut program = ProgramNote::Plain;
     for _taken in 0..turns {
         let turned = turn(layout, cpu, memory);
-        completed += u64::from(turned.completed);
+        completed += count_of(turned.completed);
         program = later_note(turned.program, program);
         if let Some(exit) = turned.exit {
             return Ran {
@@ -75,4 +73,12 @@ fn later_note(note: ProgramNote, earlier: ProgramNote) -> ProgramNote
         ProgramNote::Plain => earlier,
         _ => note,
     }
+}
+
+/// How many instructions a turn completed.
+fn count_of(completed: bool) -> u64
+    ensures count { result ≡ completed_in completed }
+    ensures few { result ≤ 1 }
+{
+    u64::from(completed)
 }

@@ -1,5 +1,5 @@
 -- A turn that completes an instruction, as the definitions want it.
-use Rattle.std.proofs.Common.{◌≡◌, ℕ, ◌+◌, ◌<◌, ◌≤◌, Bool, true, false, List, [], ◌∷◌, ◌++◌, length, map, ◌==◌, refl, ap, sym, ◌∙◌, subst, arith}
+use Rattle.std.proofs.Common.{◌≡◌, ℕ, ◌+◌, ◌<◌, Bool, true, false, List, [], ◌∷◌, ◌++◌, map, refl, ap, sym, ◌∙◌, subst, arith}
 use Rattle.std.specs.Prelude.{◌||◌}
 use Rattle.std.specs.List.{list_all}
 use Rattle.ak_core.specs.Layout.{Layout}
@@ -12,14 +12,13 @@ use Rattle.ak_model.proofs.Flat.ProgramPages.{AllLow}
 use Rattle.ak_model.specs.Flat.FlatRuns.{Flat, End, line}
 use Rattle.ak_model.proofs.Misses.EqualAccesses.{access_self}
 use Rattle.ak_model.specs.Misses.KeptTranslations.{same_access, is_among}
-use Rattle.ak_model.specs.Paging.Holdings.{Mapping, PageFrame}
+use Rattle.ak_model.specs.Paging.Holdings.{Mapping}
 use Rattle.ak_model.specs.Paging.Pages.{pages, all_pages}
-use Rattle.ak_epcm.specs.Entries.{entry_at, has_page}
-use Rattle.ak_pager.specs.Contexts.{IsAtStep, SameButRip, step_address}
-use Rattle.ak_pte.specs.Table.{pte_at}
+use Rattle.ak_epcm.specs.Entries.{entry_at}
+use Rattle.ak_pager.specs.Contexts.{step_address}
 use Rattle.ak_pte.specs.declared.table.Pte.{Pte}
-use Rattle.ak_relation.specs.Premises.CallingOut.{CallsOut, ShowsCall, walked_fill}
-use Rattle.ak_relation.specs.Premises.Computing.{Computes, ShowsComputed}
+use Rattle.ak_relation.specs.Premises.CallingOut.{ShowsCall, walked_fill}
+use Rattle.ak_relation.specs.Premises.Computing.{ShowsComputed}
 use Rattle.ak_relation.specs.Program.Reaching.{is_filled}
 use Rattle.ak_relation.specs.Program.Seeing.{Sees}
 use Rattle.ak_relation.specs.State.MachineState.{State, Processor}
@@ -102,8 +101,7 @@ module _ (layout : Layout) (cpu : Cpu) (table : List Pte) (encls new : Enclave) 
   shows_computed state m regs does flat sees =
       let c = does flat (sym sees.regs ∙ m.processor.regs) (shows layout cpu table encls k state m flat sees) in
       let at = stepped_there state cpu.lp.0 (after state regs) in
-      let l = low layout cpu table encls new k kept granted all unwritten state m flat sees End.Next regs c in
-      (
+      let l = low layout cpu table encls new k kept granted all unwritten state m flat sees End.Next regs c in (
         c.after,
         record {
           ends = ends layout cpu table encls new k kept granted all unwritten state m flat sees End.Next regs c;
@@ -149,8 +147,7 @@ module _ (layout : Layout) (cpu : Cpu) (table : List Pte) (encls new : Enclave) 
       let c = does flat (sym sees.regs ∙ m.processor.regs) (shows layout cpu table encls k state m flat sees) in
       let processor = after state (leaving_regs regs) in
       let at = stepped_there state cpu.lp.0 processor in
-      let l = low layout cpu table encls new k kept granted all unwritten state m flat sees (End.Call b a) regs c in
-      (
+      let l = low layout cpu table encls new k kept granted all unwritten state m flat sees (End.Call b a) regs c in (
         c.after,
         record {
           ends = ends layout cpu table encls new k kept granted all unwritten state m flat sees (End.Call b a) regs c;

@@ -1,6 +1,5 @@
 -- The accesses that a turn caches: those that walks found. With what was cached before they are all that were granted.
-use Rattle.std.proofs.Common.{◌≡◌, ℕ, ◌<◌, Bool, true, false, List, [], ◌∷◌, ◌++◌, map, refl, ap, sym, ◌∙◌, subst, inl, inr, arith}
-use Rattle.std.proofs.lemmas.Bool.{and_parts}
+use Rattle.std.proofs.Common.{◌≡◌, ◌<◌, Bool, true, false, List, [], ◌∷◌, ◌++◌, map, refl, ap, sym, ◌∙◌, subst, arith}
 use Rattle.std.proofs.lemmas.List.{reverse-append}
 use Rattle.std.proofs.lemmas.List.Folds.{list_any-append}
 use Rattle.std.specs.Prelude.{Option, Some, None, is_some, ◌&&◌, ◌||◌, not, filter, reverse}
@@ -13,7 +12,7 @@ use Rattle.ak_model.proofs.Flat.ProgramPages.{AllLow}
 use Rattle.ak_model.proofs.Misses.EqualAccesses.{access_is}
 use Rattle.ak_model.proofs.Misses.KeptBySet.{filter_among}
 use Rattle.ak_model.specs.Misses.KeptTranslations.{same_access, is_among}
-use Rattle.ak_model.specs.Paging.Pages.{pages, all_pages}
+use Rattle.ak_model.specs.Paging.Pages.{pages}
 use Rattle.ak_pte.specs.declared.table.Pte.{Pte}
 use Rattle.ak_relation.proofs.Exits.WalkedReached.{all_among, among_all}
 use Rattle.ak_relation.specs.Premises.CallingOut.{walked_fill}

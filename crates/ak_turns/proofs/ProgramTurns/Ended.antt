@@ -1,24 +1,23 @@
 -- A turn that an exit ends, as the definitions want it: the instruction traps, or an access of it faults.
-use Rattle.std.proofs.Common.{◌≡◌, ℕ, ◌+◌, ◌<◌, Bool, true, false, List, [], ◌∷◌, ◌++◌, length, take, refl, ap, sym, ◌∙◌, subst, arith}
+use Rattle.std.proofs.Common.{◌≡◌, ℕ, ◌<◌, Bool, true, false, List, [], ◌∷◌, ◌++◌, length, take, refl, ap, sym, ◌∙◌, subst, arith}
 use Rattle.std.proofs.Math.Seq.{take-append_seam}
 use Rattle.std.proofs.lemmas.Bool.{and_parts}
 use Rattle.std.proofs.lemmas.List.Folds.{list_any-append}
 use Rattle.std.proofs.lemmas.List.Sums.{take_while-cons}
-use Rattle.std.specs.Prelude.{Option, Some, None, is_some, ◌&&◌, ◌||◌, not, cond, slice_get, take_while, if◌then◌else◌}
+use Rattle.std.specs.Prelude.{Some, None, is_some, ◌&&◌, ◌||◌, not, cond, slice_get, take_while, if◌then◌else◌}
 use Rattle.std.specs.List.{list_all, list_any}
 use Rattle.ak_core.specs.Layout.{Layout}
 use Rattle.ak_core.specs.Mem.{Access}
 use Rattle.ak_exec.specs.Turns.{Shows, Raises, Refuses}
 use Rattle.ak_model.proofs.Flat.ProgramPages.{AllLow, line_low}
 use Rattle.ak_model.proofs.Misses.KeptBySet.{kept_same}
-use Rattle.ak_model.specs.Flat.FlatRuns.{Flat, End, line, ending, is_forbidden}
+use Rattle.ak_model.specs.Flat.FlatRuns.{Flat, End, line, is_forbidden}
 use Rattle.ak_model.specs.Misses.KeptTranslations.{same_access, is_among, is_kept}
 use Rattle.ak_model.specs.Misses.Reached.{permitted_accesses}
-use Rattle.ak_model.specs.Paging.Pages.{pages, all_pages}
+use Rattle.ak_model.specs.Paging.Pages.{pages}
 use Rattle.ak_pte.specs.declared.table.Pte.{Pte}
 use Rattle.ak_relation.proofs.Exits.WalkedReached.{among_all}
-use Rattle.ak_relation.specs.Premises.EnterRows.{walk_in}
-use Rattle.ak_relation.specs.Premises.Faulting.{Traps, Faults, ShowsTrap, ShowsFault}
+use Rattle.ak_relation.specs.Premises.Faulting.{ShowsTrap, ShowsFault}
 use Rattle.ak_relation.specs.Program.Seeing.{Sees}
 use Rattle.ak_relation.specs.State.MachineState.{State}
 use Rattle.ak_tlb.proofs.Counted.{few_less}

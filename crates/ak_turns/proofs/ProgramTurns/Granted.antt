@@ -1,5 +1,5 @@
 -- Accesses that were granted: each was cached, or is found by a walk; and no page was written that is not held.
-use Rattle.std.proofs.Common.{◌≡◌, ℕ, Bool, true, false, List, [], ◌∷◌, refl, ap, sym, ◌∙◌, subst, inl, inr}
+use Rattle.std.proofs.Common.{◌≡◌, ℕ, Bool, true, false, List, [], ◌∷◌, refl, ◌∙◌, subst, inl, inr}
 use Rattle.std.proofs.lemmas.Bool.{and_parts, eqb-true}
 use Rattle.std.specs.Prelude.{◌⊎◌, Option, Some, None, is_some, ◌||◌, ◌&&◌, ◌==◌}
 use Rattle.std.specs.Bool.{then_some}

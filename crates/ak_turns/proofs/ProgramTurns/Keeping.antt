@@ -1,7 +1,7 @@
 -- What a turn of the program leaves of the processor and of the memory.
-use Rattle.std.proofs.Common.{◌≡◌, ℕ, Bool, true, false, List, [], ◌∷◌, length, map, refl, ap, sym, ◌∙◌, subst}
+use Rattle.std.proofs.Common.{◌≡◌, ℕ, Bool, true, false, List, [], ◌∷◌, refl, ap, sym, ◌∙◌, subst}
 use Rattle.std.proofs.lemmas.List.{length-map}
-use Rattle.std.specs.Prelude.{Option, Some, None}
+use Rattle.std.specs.Prelude.{Some, None}
 use Rattle.ak_core.specs.Layout.{Layout}
 use Rattle.ak_core.specs.declared.moves.Exit.{Exit}
 use Rattle.ak_core.specs.declared.registers.Regs.{Regs}
@@ -11,7 +11,7 @@ use Rattle.ak_ssa.specs.declared.cause.Why.{Why}
 use Rattle.ak_track.specs.Steps.{TrackStep, LeavesBy, cycles_by}
 use Rattle.ak_track.specs.Tracking.{HoldsSteps, Marks}
 use Rattle.ak_encls.specs.Enclave.{Enclave}
-use Rattle.ak_enclu.specs.Passing.{outside_now, ExitsTo, Steps}
+use Rattle.ak_enclu.specs.Passing.{outside_now, ExitsTo}
 use Rattle.ak_enclu.specs.declared.cpu.Cpu.{Cpu}
 use Rattle.ak_memory.specs.declared.memory.Memory.{Memory}
 use Rattle.ak_turns.specs.Instructing.{Instructs}

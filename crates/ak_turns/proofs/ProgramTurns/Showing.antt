@@ -1,7 +1,7 @@
 -- A memory shows each flat state that its processor sees; and granted accesses of the program are permitted.
-use Rattle.std.proofs.Common.{◌≡◌, ℕ, ◌+◌, ◌<◌, ◌≤◌, Bool, true, false, List, [], ◌∷◌, length, refl, ap, sym, ◌∙◌, subst, inl, inr, arith}
+use Rattle.std.proofs.Common.{◌≡◌, ℕ, ◌<◌, Bool, true, false, List, [], ◌∷◌, length, refl, ap, sym, ◌∙◌, subst, inl, inr, arith}
 use Rattle.std.proofs.lemmas.Bool.{and_parts}
-use Rattle.std.specs.Prelude.{Option, Some, None, is_some, ◌&&◌, ◌||◌, not, if◌then◌else◌}
+use Rattle.std.specs.Prelude.{Option, Some, None, is_some, not, if◌then◌else◌}
 use Rattle.std.specs.List.{list_all, list_any}
 use Rattle.ak_core.specs.Layout.{Layout}
 use Rattle.ak_core.specs.Mem.{Access, access_to}
@@ -15,13 +15,11 @@ use Rattle.ak_model.specs.Misses.KeptTranslations.{same_access}
 use Rattle.ak_model.specs.Paging.Holdings.{Mapping}
 use Rattle.ak_model.specs.Paging.Pages.{pages, all_pages, permits}
 use Rattle.ak_epcm.specs.Entries.{entry_at, has_page, HasDistinctPages}
-use Rattle.ak_pte.specs.Table.{pte_at}
 use Rattle.ak_pte.specs.declared.table.Pte.{Pte}
 use Rattle.ak_relation.specs.Premises.EnterRows.{walk_in}
 use Rattle.ak_relation.specs.Program.Seeing.{SeenFills, Sees}
 use Rattle.ak_relation.specs.State.MachineState.{State}
 use Rattle.ak_tlb.specs.Fills.{Fill, frame_for}
-use Rattle.ak_tlb.specs.Translations.{found, frame_in}
 use Rattle.ak_encls.specs.Enclave.{Enclave, frame_at}
 use Rattle.ak_enclu.specs.Machines.{IsMachine}
 use Rattle.ak_enclu.specs.declared.cpu.Cpu.{Cpu}
@@ -29,8 +27,8 @@ use Rattle.ak_memory.proofs.Granted.{granted_has}
 use Rattle.ak_memory.proofs.Putting.{whole_page-is, bytes_in_frame}
 use Rattle.ak_memory.specs.Granting.{is_walked, granted_frame, is_granted, is_seen, whole_page}
 use Rattle.ak_turns.specs.Instructing.{memory_bytes}
-use Rattle.ak_turns.proofs.ProgramTurns.Granted.{IsWalk, IsGrantedIn, granted_by, seen_granted}
-use Rattle.ak_turns.proofs.ProgramTurns.Walks.{IsKnown, own_walk, machine_walk, frame_of}
+use Rattle.ak_turns.proofs.ProgramTurns.Granted.{IsGrantedIn, granted_by, seen_granted}
+use Rattle.ak_turns.proofs.ProgramTurns.Walks.{IsKnown, machine_walk, frame_of}
 
 -- ---- Frames
 

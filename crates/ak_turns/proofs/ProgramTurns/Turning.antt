@@ -3,7 +3,7 @@ use Rattle.std.proofs.Common.{◌≡◌, ◌≢◌, ℕ, ◌+◌, ◌<◌, ◌�
 use Rattle.std.proofs.lemmas.Bool.{and_parts}
 use Rattle.std.proofs.lemmas.Bool.Decides.{nat_tests}
 use Rattle.std.specs.Prelude.{is_some, Option, Some, None, IsTrue, ◌||◌, ◌++◌, map}
-use Rattle.ak_core.specs.Layout.{Layout, IsValid}
+use Rattle.ak_core.specs.Layout.{Layout}
 use Rattle.ak_core.specs.Mem.{Access}
 use Rattle.ak_core.specs.declared.event.Event.{Event}
 use Rattle.ak_core.specs.declared.event.Event.TheVariants.{Break, Call, Miss, Trap}
@@ -11,15 +11,14 @@ use Rattle.ak_core.specs.declared.moves.Exit.{Exit}
 use Rattle.ak_core.specs.declared.page.Entry.{Entry}
 use Rattle.ak_core.specs.declared.registers.Mode.{Mode}
 use Rattle.ak_core.specs.declared.registers.Regs.{Regs}
-use Rattle.ak_exec.specs.Turns.{Shows, Completes, Raises, Refuses, is_vector}
+use Rattle.ak_exec.specs.Turns.{is_vector}
 use Rattle.ak_exec.specs.declared.turn.Turn.{Turn}
 use Rattle.ak_model.specs.Clusters.Queue.{is_in}
 use Rattle.ak_model.specs.Control.RuntimeTurn.{shown_fault}
-use Rattle.ak_model.specs.Flat.FlatRuns.{Flat, End, line, is_forbidden}
-use Rattle.ak_model.specs.Paging.Pages.{pages, all_pages, cluster_at, ssa_page, tcs_page}
+use Rattle.ak_model.specs.Flat.FlatRuns.{End, is_forbidden}
+use Rattle.ak_model.specs.Paging.Pages.{all_pages, cluster_at, ssa_page, tcs_page}
 use Rattle.ak_epcm.specs.Entries.{entry_at, is_of_page, has_page}
 use Rattle.ak_pager.specs.Contexts.{step_address}
-use Rattle.ak_pager.specs.declared.turn.RtTurn.{RtTurn}
 use Rattle.ak_pte.specs.declared.table.Pte.{Pte}
 use Rattle.ak_relation.proofs.Exits.ExitTurns.{break_turns, miss_turns, denied_turns, vector_turns}
 use Rattle.ak_relation.proofs.Exits.HeldFrames.{program_frames}
@@ -33,11 +32,9 @@ use Rattle.ak_relation.specs.Premises.Saving.{Saves}
 use Rattle.ak_relation.specs.Program.Seeing.{Sees}
 use Rattle.ak_relation.specs.Relation.Does.{IsTurn}
 use Rattle.ak_relation.specs.Relation.HeldFrames.{HoldsFrames}
-use Rattle.ak_relation.specs.State.MachineState.{State, Processor}
-use Rattle.ak_relation.specs.State.Tables.{FramesStand}
+use Rattle.ak_relation.specs.State.MachineState.{State}
 use Rattle.ak_ssa.specs.FramesFit.{CauseFits}
 use Rattle.ak_ssa.specs.SavedFrames.{SavedCause, ByPage, ByVector, why_of}
-use Rattle.ak_ssa.specs.SavedRegisters.{AreRegs}
 use Rattle.ak_ssa.specs.declared.cause.Why.{Why}
 use Rattle.ak_tlb.specs.Fills.{Fill, HoldsFills}
 use Rattle.ak_encls.specs.Enclave.{Enclave, frame_at}
@@ -46,7 +43,7 @@ use Rattle.ak_enclu.specs.Machines.{IsMachine, LeadsToWhere}
 use Rattle.ak_enclu.specs.Passing.{outside_now, ExitsTo}
 use Rattle.ak_enclu.specs.TcsBytes.{saved_of, refuses}
 use Rattle.ak_enclu.specs.declared.cpu.Cpu.{Cpu}
-use Rattle.ak_memory.specs.Granting.{is_granted, in_use, walked_of, fill_by}
+use Rattle.ak_memory.specs.Granting.{in_use, walked_of, fill_by}
 use Rattle.ak_memory.specs.declared.memory.Memory.{Memory}
 use Rattle.ak_turns.specs.Instructing.{memory_bytes, granted_in, Instructs}
 use Rattle.ak_turns.specs.Running.{IsRunning, Runs, TurnsTo, event_of, fault_event}
@@ -140,7 +137,7 @@ module _ (layout : Layout) (cpu : Cpu) (memory : Memory) (runs : Runs layout cpu
         let c = d.line_is runs.stands.bytes.flat (sym witness_sees.regs ∙ runs.machine.processor.regs) seen in
         let l = low layout own memory.table memory.encls mid.encls k d.kept granted d.granted d.unwritten runs.state runs.machine runs.stands.bytes.flat witness_sees End.Next regs c in
         let turn = computed_turns layout cpu.lp.0 state end (state_mode state m)
-            (shows_computed layout own memory.table memory.encls mid.encls k d.kept granted d.granted d.unwritten state m regs d.line_is) in
+        (shows_computed layout own memory.table memory.encls mid.encls k d.kept granted d.granted d.unwritten state m regs d.line_is) in
         record {
           new = end;
           machine = machine_after Turn.Done d regs state end
@@ -164,7 +161,7 @@ module _ (layout : Layout) (cpu : Cpu) (memory : Memory) (runs : Runs layout cpu
         let l = low layout own memory.table memory.encls mid.encls k d.kept granted d.granted d.unwritten runs.state runs.machine runs.stands.bytes.flat witness_sees (End.Call b a) regs c in
         let same = call_frames layout own memory.table memory.encls mid.encls k d.kept granted d.granted d.unwritten runs.state runs.machine runs.stands.bytes.flat witness_sees b a regs d.line_is in
         let turn = call_turns layout cpu.lp.0 state end b a (state_mode state m)
-            (shows_call layout own memory.table memory.encls mid.encls k d.kept granted d.granted d.unwritten state m b a regs d.line_is) in
+        (shows_call layout own memory.table memory.encls mid.encls k d.kept granted d.granted d.unwritten state m b a regs d.line_is) in
         record {
           new = end;
           machine = machine_after (Turn.Called b a) d regs' state end

@@ -4,7 +4,7 @@ use Rattle.std.proofs.Common.{◌≡◌, ℕ, ◌<◌, Bool, true, false, List, 
 use Rattle.std.proofs.lemmas.Bool.{and_parts}
 use Rattle.std.specs.Prelude.{Option, Some, None, ◌&&◌, ◌||◌, not, nat_le, ◌+◌, is_some, if◌then◌else◌}
 use Rattle.ak_core.specs.Layout.{Layout}
-use Rattle.ak_core.specs.Mem.{Access, access_to}
+use Rattle.ak_core.specs.Mem.{Access}
 use Rattle.ak_core.specs.declared.page.Entry.{Entry}
 use Rattle.ak_core.specs.declared.page.Frame.{Frame}
 use Rattle.ak_core.specs.declared.page.Kind.{Kind}
@@ -27,15 +27,14 @@ use Rattle.ak_relation.proofs.Entering.EnterAnswers.{walk_same}
 use Rattle.ak_relation.proofs.Program.Completing.{filled_reached}
 use Rattle.ak_relation.proofs.Program.Seen.{its_stay}
 use Rattle.ak_relation.specs.Premises.EnterRows.{walk_in}
-use Rattle.ak_relation.specs.Program.Reaching.{AreReached, is_filled}
+use Rattle.ak_relation.specs.Program.Reaching.{is_filled}
 use Rattle.ak_relation.specs.Relation.Does.{at_moment}
 use Rattle.ak_relation.specs.Relation.Stands.{Stands}
 use Rattle.ak_relation.specs.State.MachineState.{State}
 use Rattle.ak_relation.specs.State.MachineView.{held_in}
 use Rattle.ak_relation.specs.State.Tables.{TablesStand}
-use Rattle.ak_tlb.specs.Fills.{Fill, frame_for, HoldsFills}
+use Rattle.ak_tlb.specs.Fills.{Fill, frame_for}
 use Rattle.ak_tlb.specs.Translations.{found, frame_in}
-use Rattle.ak_tlb.specs.declared.translation.Translation.{Translation}
 use Rattle.ak_walk.proofs.Bridge.{walk_finds-walkable}
 use Rattle.ak_walk.specs.Agrees.{EntryAgrees}
 use Rattle.ak_encls.specs.Enclave.{Enclave, frame_at}

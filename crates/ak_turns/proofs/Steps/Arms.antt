@@ -1,12 +1,11 @@
 -- What each end of a step comes to, as the contract of the runtime's turn has it.
-use Rattle.std.proofs.Common.{◌≡◌, ℕ, ◌<◌, ◌≤◌, Bool, true, false, List, [], ◌∷◌, ◌==◌, refl, ap, sym, ◌∙◌, subst}
-use Rattle.std.specs.Prelude.{Option, Some, None}
+use Rattle.std.proofs.Common.{◌≡◌, ℕ, ◌≤◌, true, false, List, [], ◌==◌, refl, ap, sym, ◌∙◌, subst}
+use Rattle.std.specs.Prelude.{Some, None}
 use Rattle.ak_core.specs.Layout.{Layout}
 use Rattle.ak_core.specs.Mem.{Access}
 use Rattle.ak_core.specs.declared.event.StopCause.{StopCause}
 use Rattle.ak_core.specs.declared.page.Entry.{Entry}
 use Rattle.ak_core.specs.declared.moves.Exit.{Exit}
-use Rattle.ak_core.specs.declared.registers.Regs.{Regs}
 use Rattle.ak_model.specs.Paging.Build.{steps_walk}
 use Rattle.ak_epcm.specs.Entries.{entry_at, is_of_page}
 use Rattle.ak_pte.specs.declared.table.Pte.{Pte}
@@ -16,7 +15,7 @@ use Rattle.ak_ssa.specs.SavedRegisters.{AreRegs}
 use Rattle.ak_ssa.specs.declared.cause.Why.{Why}
 use Rattle.ak_tlb.specs.declared.translation.Translation.{Translation}
 use Rattle.ak_track.specs.Steps.{LeavesBy}
-use Rattle.ak_relation.specs.Premises.Works.{Quits, Ends, exit_of}
+use Rattle.ak_relation.specs.Premises.Works.{Ends, exit_of}
 use Rattle.ak_relation.specs.Relation.Causes.{NamesCause}
 use Rattle.ak_relation.specs.State.MachineState.{State}
 use Rattle.ak_encls.specs.Enclave.{Enclave, frame_at}

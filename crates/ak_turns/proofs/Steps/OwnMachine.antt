@@ -8,7 +8,6 @@ use Rattle.ak_core.specs.declared.registers.Regs.{Regs}
 use Rattle.ak_model.specs.Paging.Pages.{tcs_page, ssa_page}
 use Rattle.ak_epcm.proofs.PageFrames.{has_page_of_page}
 use Rattle.ak_epcm.specs.Entries.{entry_at, has_page, is_of_page}
-use Rattle.ak_pte.specs.declared.table.Pte.{Pte}
 use Rattle.ak_pager.specs.Effects.{SomeStep}
 use Rattle.ak_pager.specs.StepsTo.{memory_of, MayStep}
 use Rattle.ak_relation.proofs.Exits.HeldFrames.{holds_frames}

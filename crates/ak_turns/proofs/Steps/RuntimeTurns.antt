@@ -1,14 +1,11 @@
 -- A step of the runtime as a turn of the machine: the processor goes on, leaves, or is saved at a refused access.
-use Rattle.std.proofs.Common.{◌≡◌, ℕ, ◌<◌, ◌≤◌, ◌++◌, Bool, true, false, List, [], ◌∷◌, length, ◌==◌, refl, ap, sym, ◌∙◌, subst}
+use Rattle.std.proofs.Common.{◌≡◌, ℕ, ◌<◌, true, false, List, [], ◌∷◌, length, ◌==◌, refl, ap, sym, ◌∙◌, subst}
 use Rattle.std.proofs.lemmas.Bool.{and_parts}
-use Rattle.std.specs.Prelude.{Option, Some, None, is_some, ◌||◌}
+use Rattle.std.specs.Prelude.{Some, None, is_some}
 use Rattle.std.specs.List.{list_all}
 use Rattle.ak_core.specs.Layout.{Layout}
 use Rattle.ak_core.specs.Mem.{Access}
-use Rattle.ak_core.specs.declared.moves.Exit.{Exit}
-use Rattle.ak_core.specs.declared.registers.Mode.{Mode}
 use Rattle.ak_core.specs.declared.registers.Regs.{Regs}
-use Rattle.ak_model.specs.Control.RuntimeTurn.{accesses}
 use Rattle.ak_model.specs.Paging.Build.{steps_walk}
 use Rattle.ak_model.specs.Paging.Pages.{all_pages}
 use Rattle.ak_pte.specs.declared.table.Pte.{Pte}

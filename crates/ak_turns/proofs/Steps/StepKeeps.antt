@@ -1,15 +1,13 @@
 -- What a turn of the runtime leaves of the processor and of the memory.
-use Rattle.std.proofs.Common.{◌≡◌, ℕ, Bool, true, false, List, [], ◌∷◌, refl, ap, sym, ◌∙◌, subst}
-use Rattle.std.specs.Prelude.{Option, Some, None}
+use Rattle.std.proofs.Common.{◌≡◌, ℕ, Bool, false, List, [], refl, ap, sym, ◌∙◌, subst}
+use Rattle.std.specs.Prelude.{Some, None}
 use Rattle.ak_core.specs.Layout.{Layout}
 use Rattle.ak_core.specs.declared.moves.Exit.{Exit}
 use Rattle.ak_core.specs.declared.registers.Regs.{Regs}
-use Rattle.ak_pager.specs.declared.turn.RtTurn.{RtTurn}
-use Rattle.ak_ssa.specs.declared.cause.Why.{Why}
 use Rattle.ak_track.specs.Steps.{LeavesBy}
 use Rattle.ak_track.specs.Tracking.{HoldsSteps, Marks}
 use Rattle.ak_encls.specs.Enclave.{Enclave}
-use Rattle.ak_enclu.specs.Passing.{outside_now, ExitsTo, Steps}
+use Rattle.ak_enclu.specs.Passing.{outside_now, Steps}
 use Rattle.ak_enclu.specs.declared.cpu.Cpu.{Cpu}
 use Rattle.ak_memory.specs.declared.memory.Memory.{Memory}
 use Rattle.ak_turns.specs.Running.{Runs, TurnKeeps}

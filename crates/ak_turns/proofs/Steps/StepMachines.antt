@@ -1,19 +1,16 @@
 -- The machine after a step of the runtime: the processor has other registers, frames have other bytes, and the processor may have left.
-use Rattle.std.proofs.Common.{◌≡◌, ℕ, ◌<◌, Bool, true, false, List, [], ◌∷◌, ◌==◌, if◌then◌else◌, refl, ap, sym, ◌∙◌, subst}
+use Rattle.std.proofs.Common.{◌≡◌, ℕ, Bool, true, false, List, ◌==◌, if◌then◌else◌, refl, ap, sym, ◌∙◌, subst}
 use Rattle.std.proofs.lemmas.Bool.{eqb-true}
 use Rattle.ak_core.specs.Layout.{Layout}
-use Rattle.ak_core.specs.declared.moves.Exit.{Exit}
-use Rattle.ak_core.specs.declared.event.StopCause.{StopCause}
 use Rattle.ak_core.specs.declared.registers.Regs.{Regs}
 use Rattle.ak_pte.specs.declared.table.Pte.{Pte}
-use Rattle.ak_pager.specs.declared.turn.RtTurn.{RtTurn}
 use Rattle.ak_track.specs.Steps.{LeavesBy}
 use Rattle.ak_relation.specs.Premises.Works.{GoesOn, Quits}
 use Rattle.ak_relation.specs.State.MachineState.{Processor, State}
 use Rattle.ak_encls.specs.Enclave.{Enclave, frame_at}
 use Rattle.ak_enclu.proofs.Changes.{processor_there, processor_other}
 use Rattle.ak_enclu.proofs.Left.{quits}
-use Rattle.ak_enclu.specs.Machines.{IsProcessor, IsMachine, LeadsToWhere}
+use Rattle.ak_enclu.specs.Machines.{IsProcessor, IsMachine}
 use Rattle.ak_enclu.specs.Passing.{outside_now, Steps}
 use Rattle.ak_enclu.specs.declared.cpu.Cpu.{Cpu}
 use Rattle.ak_turns.proofs.Steps.WrittenFrames.{changed}

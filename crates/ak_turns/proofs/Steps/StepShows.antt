@@ -1,5 +1,5 @@
 -- A step of the runtime as a turn: what the machine shows of it.
-use Rattle.std.proofs.Common.{◌≡◌, ℕ, ◌<◌, ◌≤◌, ◌+◌, Bool, true, false, List, [], ◌∷◌, refl, ap, sym, ◌∙◌, subst}
+use Rattle.std.proofs.Common.{◌≡◌, ℕ, Bool, true, false, List, [], ap, sym, ◌∙◌, subst}
 use Rattle.std.specs.Prelude.{Option, Some, None}
 use Rattle.ak_core.specs.Layout.{Layout}
 use Rattle.ak_core.specs.Mem.{Access}
@@ -15,7 +15,7 @@ use Rattle.ak_ssa.specs.SavedFrames.{ByPage}
 use Rattle.ak_track.specs.Steps.{TrackStep}
 use Rattle.ak_relation.specs.Bytes.Pages.{IsTcs}
 use Rattle.ak_relation.specs.Premises.Saving.{Saves}
-use Rattle.ak_relation.specs.Premises.Shows.{MemorySees, StepLeaves, ShowsStep}
+use Rattle.ak_relation.specs.Premises.Shows.{MemorySees, ShowsStep}
 use Rattle.ak_relation.specs.Premises.Works.{Ends}
 use Rattle.ak_relation.specs.State.MachineState.{Processor, State}
 use Rattle.ak_relation.specs.State.Tables.{TablesStand}

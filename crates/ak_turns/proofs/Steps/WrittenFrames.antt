@@ -1,5 +1,5 @@
 -- What a step of the runtime leaves in the frames: the pages that its memory sees have the bytes that it left, and each other frame stays.
-use Rattle.std.proofs.Common.{◌≡◌, ℕ, ◌<◌, Bool, true, false, List, [], ◌∷◌, length, refl, ap, sym, ◌∙◌, subst}
+use Rattle.std.proofs.Common.{◌≡◌, ℕ, Bool, true, false, List, [], ◌∷◌, refl, ap, sym, ◌∙◌}
 use Rattle.std.proofs.lemmas.Bool.{and_parts, eq-eqb}
 use Rattle.std.specs.Prelude.{Option, Some, None, ◌&&◌, ◌==◌}
 use Rattle.std.specs.List.{list_all}
@@ -9,7 +9,6 @@ use Rattle.ak_core.specs.declared.page.Entry.{Entry}
 use Rattle.ak_model.specs.Paging.Frames.{held}
 use Rattle.ak_model.specs.Paging.Histories.{History}
 use Rattle.ak_model.specs.Paging.Holdings.{PageFrame, Mapping}
-use Rattle.ak_model.specs.Paging.Pages.{all_pages}
 use Rattle.ak_epcm.specs.Entries.{entry_at, has_page, is_of_page}
 use Rattle.ak_pte.specs.Table.{pte_at}
 use Rattle.ak_pte.specs.declared.table.Pte.{Pte}

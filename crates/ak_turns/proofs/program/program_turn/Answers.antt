@@ -1,10 +1,8 @@
-use Rattle.std.proofs.Common.{◌≡◌, ◌≤◌, ◌∙◌, ap, sym, subst, arith}
-use Rattle.std.specs.Prelude.{None, Some}
+use Rattle.std.proofs.Common.{◌≡◌, ◌∙◌, ap, sym, subst}
 use Rattle.ak_core.specs.declared.moves.Exit.{Exit}
 use Rattle.ak_core.specs.declared.registers.Regs.{Regs}
 use Rattle.ak_model.specs.Control.RuntimeTurn.{shown_fault}
 use Rattle.ak_exec.specs.declared.turn.Turn.{Turn}
-use Rattle.ak_ssa.specs.SavedFrames.{ByPage, why_of}
 use Rattle.ak_ssa.specs.declared.cause.Why.{Why}
 use Rattle.ak_enclu.specs.Passing.{ExitsTo}
 use Rattle.ak_turns.specs.Running.{TurnKeeps, TurnsTo}

@@ -1,4 +1,4 @@
-use Rattle.std.proofs.Common.{◌≡◌, ◌≤◌, true, ℕ}
+use Rattle.std.proofs.Common.{◌≡◌, ◌≤◌, true}
 use Rattle.ak_relation.specs.State.MachineState.{State}
 use Rattle.ak_turns.specs.Running.{IsRunning}
 use Rattle.ak_turns.specs.WholeRuns.{RunsSoFar, RunsWith, StillRuns}

@@ -1,13 +1,12 @@
-use Rattle.std.proofs.Common.{◌≡◌, ap, sym, ◌∙◌, subst}
-use Rattle.std.specs.Prelude.{None, Some}
+use Rattle.std.proofs.Common.{ap, sym, ◌∙◌, subst}
+use Rattle.std.specs.Prelude.{None}
 use Rattle.ak_core.specs.declared.moves.Exit.{Exit}
-use Rattle.ak_pager.specs.declared.turn.RtTurn.{RtTurn}
 use Rattle.ak_track.specs.Steps.{LeavesBy}
 use Rattle.ak_enclu.specs.Passing.{outside_now, Steps}
 use Rattle.ak_enclu.specs.declared.cpu.Cpu.{Cpu}
 use Rattle.ak_turns.specs.Running.{TurnsTo, TurnKeeps}
 use Rattle.ak_turns.specs.declared.notes.Turned.{Turned}
-use Rattle.ak_turns.proofs.Steps.Arms.{MayBeSaved, may_be_saved, arm_goes, arm_leaves, arm_dies, arm_faults}
+use Rattle.ak_turns.proofs.Steps.Arms.{may_be_saved, arm_goes, arm_leaves, arm_dies, arm_faults}
 use Rattle.ak_turns.proofs.Steps.StepKeeps.{keeps_gone_on, keeps_left, only_track}
 use Rattle.ak_turns.proofs.runtime.runtime_step.Goals as goal
 
