@@ -1,5 +1,5 @@
 mod Fields
-mod Rows
+pub mod Rows
 pub mod Changes
-mod Entered
+pub mod Entered
 pub mod Left

@@ -21,7 +21,7 @@ ghost use Rattle.ak_relation.specs.Premises.Works.{Quits};
 ghost use Rattle.ak_relation.specs.State.MachineState.{State};
 ghost use Rattle.ak_relation.specs.State.Tables.{FramesStand, TablesStand};
 ghost use Rattle.ak_encls.specs.Enclave.{Enclave, frame_at};
-ghost use Rattle.ak_enclu.specs.EnterAnswers.{enter_answer, resume_answer, held_at};
+ghost use Rattle.ak_enclu.specs.EnterAnswers.{enter_answer, finds_tcs, resume_answer, held_at};
 ghost use Rattle.ak_pte.specs.Table.{pte_at};
 ghost use Rattle.ak_enclu.specs.Machines.{IsMachine, LeadsToWhere};
 ghost use Rattle.ak_enclu.specs.Passing.{tcs_at, inside_with, outside_now, EntersTo, ExitsTo, Steps};
@@ -39,15 +39,18 @@ pub fn fields_return()
         → IsTcs (saved + 1) (refuses why || pending) (after_exit why bytes) }
 {}
 
-/// Where the tables stand, the answers are the rows over the machine's own tables.
+/// Where the tables stand, and the TCS that is found has three saved contexts at most, the answers are the rows over the machine's own
+/// tables.
 pub fn answers_are_rows()
     ensures enter { (layout : Layout) (past : History) (state : State) (cpu : TheCpu) (table : List Pte) (encls : Enclave) → TablesStand layout past state
-        → IsMachine layout cpu table encls state → cpu.lp.0 < layout.lps → saved_of (tcs_at encls table (tcs_page layout)) ≤ 3
+        → IsMachine layout cpu table encls state → cpu.lp.0 < layout.lps
+        → (finds_tcs encls.entries table (tcs_page layout) ≡ true → saved_of (tcs_at encls table (tcs_page layout)) ≤ 3)
         → enter_answer encls.entries table (tcs_page layout) (tcs_at encls table (tcs_page layout)) cpu.inside
         (list_any (λ q. (state.processors q).inside && not (q == cpu.lp.0)) (processors layout))
         ≡ enter_row layout state cpu.lp.0 }
     ensures resume { (layout : Layout) (past : History) (state : State) (cpu : TheCpu) (table : List Pte) (encls : Enclave) → TablesStand layout past state
-        → IsMachine layout cpu table encls state → cpu.lp.0 < layout.lps → saved_of (tcs_at encls table (tcs_page layout)) ≤ 3
+        → IsMachine layout cpu table encls state → cpu.lp.0 < layout.lps
+        → (finds_tcs encls.entries table (tcs_page layout) ≡ true → saved_of (tcs_at encls table (tcs_page layout)) ≤ 3)
         → resume_answer encls.entries table (tcs_page layout) (tcs_at encls table (tcs_page layout)) cpu.inside
         (list_any (λ q. (state.processors q).inside && not (q == cpu.lp.0)) (processors layout))
         ≡ resume_row layout state cpu.lp.0 }

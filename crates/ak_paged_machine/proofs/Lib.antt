@@ -2,3 +2,8 @@ mod Sound
 mod Plain
 mod Entries
 mod Leaves
+mod Processors
+mod Runs
+mod Held
+mod Interrupts
+mod Enterings
