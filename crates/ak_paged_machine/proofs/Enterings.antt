@@ -42,13 +42,15 @@ use Rattle.ak_enclu.specs.Passing.{EntersTo, inside_with, tcs_at}
 use Rattle.ak_enclu.specs.Processors.{entry_regs_at}
 use Rattle.ak_enclu.specs.TcsBytes.{pending_of, saved_of, with_pending, with_saved}
 use Rattle.ak_enclu.specs.declared.cpu.Cpu.{Cpu}
+use Rattle.ak_memory.specs.declared.memory.Memory.{Memory}
+use Rattle.ak_pte.specs.declared.table.Pte.{Pte}
 use Rattle.ak_paged_machine.specs.declared.applied.Applied.{Applied}
 use Rattle.ak_paged_machine.specs.Machines.{IsSound, IsState, Parts}
 use Rattle.ak_paged_machine.specs.Moves.{Counts, Moves, MovesTo, plainly}
 use Rattle.ak_paged_machine.proofs.Held.{few_saved, frames_stand, says_flag}
 use Rattle.ak_paged_machine.proofs.Plain.{counts_none, no_run, plain_moves, stays}
 use Rattle.ak_paged_machine.proofs.Processors.{numbered, one_machine, others_inside, replaced}
-use Rattle.ak_paged_machine.proofs.Runs.{lp_known}
+use Rattle.ak_paged_machine.proofs.Runs.{own_low}
 
 -- a step by which a processor enters begins no cycle
 entered_cycles : (old new : Marks) (lps lp : ℕ) (steps : List TrackStep) → HoldsSteps old lps steps → HoldsSteps new lps (EntersBy lp ∷ steps) → new.cycles ≡ old.cycles
@@ -111,6 +113,22 @@ put_back : (xs : List Cpu) (i : ℕ) (c : Cpu) → slice_get xs i ≡ Some c →
 put_back [] i c at = refl
 put_back (x ∷ xs) zero c at = ap (λ (y : Cpu). y ∷ xs) (sym (same_Some x c at))
 put_back (x ∷ xs) (suc i) c at = ap (λ ys. x ∷ ys) (put_back xs i c at)
+
+-- what EENTER and ERESUME leave, by the page of the TCS and of the code
+pub record EnterFacts (layout : Layout) (cpu : Cpu) (v : ℕ) (busy : Bool) (a : Answer) (c : Cpu) (new old : Enclave) (table : List Pte) (t code : ℕ) : Type 0 where
+  row : a ≡ enter_answer old.entries table t (tcs_at old table t) cpu.inside busy
+  same_cpu : is_done a ≡ false → c ≡ cpu
+  same_encls : is_done a ≡ false → new ≡ old
+  cpu_is : is_done a ≡ true → c ≡ inside_with cpu (entry_regs_at (layout.base + 4096 * code) (saved_of (tcs_at old table t)) v) (held_at table t (saved_of (tcs_at old table t)))
+  to : is_done a ≡ true → EntersTo cpu.lp.0 (pte_at table t).frame.0 (with_pending false (tcs_at old table t)) old new
+
+pub record ResumeFacts (cpu : Cpu) (busy : Bool) (a : Answer) (c : Cpu) (new old : Enclave) (table : List Pte) (t : ℕ) : Type 0 where
+  row : a ≡ resume_answer old.entries table t (tcs_at old table t) cpu.inside busy
+  same_cpu : is_done a ≡ false → c ≡ cpu
+  same_encls : is_done a ≡ false → new ≡ old
+  cpu_is : is_done a ≡ true → c ≡ inside_with cpu (area_regs (frame_at old.frames (pte_at table (area_page t (saved_of (tcs_at old table t) - 1))).frame.0))
+      (held_at table t (saved_of (tcs_at old table t) - 1))
+  to : is_done a ≡ true → EntersTo cpu.lp.0 (pte_at table t).frame.0 (with_saved (saved_of (tcs_at old table t) - 1) (tcs_at old table t)) old new
 
 -- ---- No such processor
 
@@ -178,9 +196,7 @@ module _ (parts : Parts) (s : IsSound parts) where
   module _ (lp : Lp) (cpu : Cpu) (at : slice_get parts.cpus lp.0 ≡ Some cpu) (busy : Bool)
       (busy_is : busy ≡ list_any (λ (c : Cpu). c.inside && not (c.lp.0 == lp.0)) parts.cpus) where
     low : cpu.lp.0 < parts.layout.lps
-    low =
-        let number : cpu.lp ≡ lp = numbered parts lp cpu at s.somewhere.state s.somewhere.machine in
-        let known = lp_known parts s lp cpu at in subst (λ (q : Lp). q.0 < parts.layout.lps) (sym number) known
+    low = own_low parts s lp cpu at
 
     busy_here : (state : State) → IsState parts state → busy ≡ list_any (λ q. (state.processors q).inside && not (q == cpu.lp.0)) (processors parts.layout)
     busy_here state machine =
@@ -332,3 +348,29 @@ module _ (parts : Parts) (s : IsSound parts) where
               (subst (λ x. is_done x ≡ true) row yes) in
               subst (λ (x : Answer). Moves parts (Eresume lp) (plainly x) (after c encls)) (sym ok)
               (subst (λ (x : Cpu). Moves parts (Eresume lp) (plainly Ok) (after x encls)) (sym (cpu_is yes)) (resume_made encls ok (to yes)))
+
+    -- ---- Over a memory whose parts are those
+
+    module _ (mid : Memory) (same_encls : mid.encls ≡ parts.encls) (same_table : mid.table ≡ parts.table) (a : Answer) (c : Cpu) (encls : Enclave) (t : ℕ) (is_tcs : t ≡ tcs) where
+      abbrev ended : Parts
+      ended = record { layout = parts.layout; encls = encls; table = mid.table; cpus = set parts.cpus lp.0 c }
+
+      pub enter_all : (v : ℕ) → v < 2 ^ 64 → (code : ℕ) → code ≡ code_page parts.layout →
+          EnterFacts parts.layout cpu v busy a c encls mid.encls mid.table t code → Moves parts (Eenter lp v) (plainly a) ended
+      enter_all v word code is_code facts =
+          let here : EnterFacts parts.layout cpu v busy a c encls parts.encls parts.table tcs (code_page parts.layout) =
+          subst (λ (e : Enclave). EnterFacts parts.layout cpu v busy a c encls e parts.table tcs (code_page parts.layout)) same_encls
+          (subst (λ (l : List Pte). EnterFacts parts.layout cpu v busy a c encls mid.encls l tcs (code_page parts.layout)) same_table
+          (subst (λ (i : ℕ). EnterFacts parts.layout cpu v busy a c encls mid.encls mid.table i (code_page parts.layout)) is_tcs
+          (subst (λ (i : ℕ). EnterFacts parts.layout cpu v busy a c encls mid.encls mid.table t i) is_code facts))) in
+          subst (λ (l : List Pte). Moves parts (Eenter lp v) (plainly a) (record { layout = parts.layout; encls = encls; table = l; cpus = set parts.cpus lp.0 c })) (sym same_table)
+          (enter_moved v word a here.row c encls here.same_cpu here.same_encls here.cpu_is here.to)
+
+      pub resume_all : ResumeFacts cpu busy a c encls mid.encls mid.table t → Moves parts (Eresume lp) (plainly a) ended
+      resume_all facts =
+          let here : ResumeFacts cpu busy a c encls parts.encls parts.table tcs =
+          subst (λ (e : Enclave). ResumeFacts cpu busy a c encls e parts.table tcs) same_encls
+          (subst (λ (l : List Pte). ResumeFacts cpu busy a c encls mid.encls l tcs) same_table
+          (subst (λ (i : ℕ). ResumeFacts cpu busy a c encls mid.encls mid.table i) is_tcs facts)) in
+          subst (λ (l : List Pte). Moves parts (Eresume lp) (plainly a) (record { layout = parts.layout; encls = encls; table = l; cpus = set parts.cpus lp.0 c })) (sym same_table)
+          (resume_moved a here.row c encls here.same_cpu here.same_encls here.cpu_is here.to)

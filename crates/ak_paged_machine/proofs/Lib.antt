@@ -7,3 +7,4 @@ mod Runs
 mod Held
 mod Interrupts
 mod Enterings
+mod Builds

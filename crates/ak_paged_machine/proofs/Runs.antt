@@ -25,6 +25,10 @@ use Rattle.ak_paged_machine.specs.Moves.{Counts, Moves, MovesTo, plainly}
 use Rattle.ak_paged_machine.proofs.Plain.{stays}
 use Rattle.ak_paged_machine.proofs.Processors.{lp_low, numbered, one_machine, replaced, same_inside}
 
+-- what a run comes to
+abbrev pub run_applied : Ran → Applied
+run_applied ran = record { answer = Answer.Exit ran.exit; completed = ran.completed; program = ran.program; runtime = ran.runtime }
+
 -- ---- No such processor
 
 module _ (parts : Parts) (s : IsSound parts) (lp : Lp) (none : parts.layout.lps ≤ lp.0) where
@@ -50,6 +54,9 @@ module _ (parts : Parts) (s : IsSound parts) (lp : Lp) (cpu : Cpu) (at : slice_g
 
   known : nat_lt lp.0 parts.layout.lps ≡ true
   known = let low = lp_known in grind (arith, nat_tests, low)
+
+  pub own_low : cpu.lp.0 < parts.layout.lps
+  own_low = subst (λ (q : Lp). q.0 < parts.layout.lps) (sym (numbered parts lp cpu at s.somewhere.state s.somewhere.machine)) lp_known
 
   module _ (out : cpu.inside ≡ false) where
     answered : outside_answer parts.layout lp.0 ≡ Outside
@@ -96,10 +103,7 @@ module _ (parts : Parts) (s : IsSound parts) (lp : Lp) (cpu : Cpu) (at : slice_g
     abbrev ended : Parts
     ended = record parts { encls = new.encls; cpus = set parts.cpus lp.0 after }
 
-    abbrev applied : Applied
-    applied = record { answer = Answer.Exit ran.exit; completed = ran.completed; program = ran.program; runtime = ran.runtime }
-
-    run_to : (state : State) → IsState parts state → MovesTo parts.layout state (Run lp n) applied ended
+    run_to : (state : State) → IsState parts state → MovesTo parts.layout state (Run lp n) (run_applied ran) ended
     run_to state machine =
         let same_lp : after.lp ≡ cpu.lp = ap (λ (c : Cpu). c.lp) keeps.cpu_is in
         let number = numbered parts lp cpu at state machine in
@@ -113,7 +117,7 @@ module _ (parts : Parts) (s : IsSound parts) (lp : Lp) (cpu : Cpu) (at : slice_g
           cause = r.cause;
         }
 
-    pub run_made : Moves parts (Run lp n) applied ended
+    pub run_made : Moves parts (Run lp n) (run_applied ran) ended
     run_made =
         let rest : new.encls ≡ record parts.encls { frames = new.encls.frames; track = new.encls.track } =
         keeps.encls ∙ ap (λ (e : Enclave). record e { frames = new.encls.frames; track = new.encls.track }) here in

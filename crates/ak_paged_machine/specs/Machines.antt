@@ -1,7 +1,8 @@
 -- Which plain values a machine has, and that it stands for some history.
-use Rattle.std.specs.Prelude.{◌≡◌, ℕ, ◌<◌, ◌≤◌, false, List, length, Some, slice_get}
+use Rattle.std.specs.Prelude.{◌≡◌, ℕ, ◌<◌, ◌≤◌, true, false, List, [], length, Some, slice_get}
 use Rattle.ak_core.specs.Layout.{Layout}
 use Rattle.ak_core.specs.declared.build.Build.{Build}
+use Rattle.ak_epcm.specs.Entries.{entry_at, has_page}
 use Rattle.ak_model.specs.Control.ControlState.{Control}
 use Rattle.ak_model.specs.Paging.Histories.{History}
 use Rattle.ak_model.specs.Paging.Pages.{all_pages}
@@ -9,10 +10,11 @@ use Rattle.ak_model.specs.Tapes.ProgramTurns.{ProgramTurn}
 use Rattle.ak_pte.specs.Table.{pte_at}
 use Rattle.ak_pte.specs.declared.table.Pte.{Pte}
 use Rattle.ak_walk.specs.Mappings.{mapping_of}
+use Rattle.ak_relation.specs.Premises.Built.{IsBuilt}
 use Rattle.ak_relation.specs.Relation.Does.{at_moment}
 use Rattle.ak_relation.specs.Relation.Stands.{Stands}
 use Rattle.ak_relation.specs.State.MachineState.{State}
-use Rattle.ak_encls.specs.Enclave.{Enclave}
+use Rattle.ak_encls.specs.Enclave.{Enclave, frame_at}
 use Rattle.ak_encls.specs.Paging.{IsPaging}
 use Rattle.ak_enclu.specs.Machines.{IsProcessor}
 use Rattle.ak_enclu.specs.declared.cpu.Cpu.{Cpu}
@@ -56,3 +58,24 @@ pub record IsSound (parts : Parts) : Type 0 where
   pub each : length parts.cpus ≡ parts.layout.lps
   pub sized : length parts.table ≡ all_pages parts.layout
   pub somewhere : StandsSomewhere parts
+
+-- a frame holds the page, and has these bytes
+pub record HasBytes (encls : Enclave) (p : ℕ) (bytes : List ℕ) : Type 0 where
+  pub frame : ℕ
+  pub held : has_page (entry_at encls.entries frame) p ≡ true
+  pub bytes_are : bytes ≡ frame_at encls.frames frame
+
+-- the machine with so many blank pages to spare
+abbrev pub with_spare : Parts → ℕ → Parts
+with_spare parts n = record parts { encls = record parts.encls { handles = record parts.encls.handles { spare = n } } }
+
+-- so many processors, by their numbers, each outside and with nothing cached
+pub record AreNew (lps : ℕ) (cpus : List Cpu) : Type 0 where
+  pub count : length cpus ≡ lps
+  pub each : (lp : ℕ) (cpu : Cpu) → slice_get cpus lp ≡ Some cpu → (cpu.lp.0 ≡ lp) × (cpu.inside ≡ false) × (cpu.tlb ≡ [])
+
+-- some state of the machine is as the build of an image leaves it
+pub record IsJustBuilt (image : List ℕ) (parts : Parts) : Type 0 where
+  pub state : State
+  pub machine : IsState parts state
+  pub built : IsBuilt parts.layout image state

@@ -3,6 +3,7 @@
 #![tactic(auto)]
 
 mod applied;
+mod build;
 mod entering;
 mod kernel;
 mod machine;

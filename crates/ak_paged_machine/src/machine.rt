@@ -1,14 +1,20 @@
 // The machine, and what it lends and tells.
-ghost use Rattle.std.specs.Prelude.{◌≡◌, ◌<◌, ◌≤◌, ◌+◌, ◌^◌, Some, OnOk, OnErr, IfSome, length, slice_get, is_some, max};
-ghost use Rattle.std.specs.Option.{option_map};
+ghost use Rattle.std.specs.Prelude.{◌≡◌, ℕ, List, ◌<◌, ◌≤◌, ◌+◌, ◌^◌, Some, OnOk, OnErr, IfSome, IfNone, length, slice_get, max};
 ghost use Rattle.ak_core.specs.Mem.{access_to};
-ghost use Rattle.ak_epcm.specs.Entries.{frame_with};
-ghost use Rattle.ak_model.specs.Paging.Pages.{tcs_page as the_tcs_page};
+ghost use Rattle.ak_epcm.specs.Entries.{HasNoFrame};
+ghost use Rattle.ak_model.specs.Control.ControlState.{Control};
+ghost use Rattle.ak_model.specs.Paging.Histories.{History};
+ghost use Rattle.ak_model.specs.Paging.Pages.{all_pages, tcs_page as the_tcs_page};
+ghost use Rattle.ak_model.specs.Paging.Walk.{walkable as is_walkable};
+ghost use Rattle.ak_model.specs.Tapes.ProgramTurns.{ProgramTurn};
+ghost use Rattle.ak_relation.specs.Relation.Does.{at_moment};
+ghost use Rattle.ak_relation.specs.Relation.Stands.{Stands};
+ghost use Rattle.ak_relation.specs.State.MachineState.{State};
+ghost use Rattle.ak_relation.specs.State.Tables.{TablesStand};
 ghost use Rattle.ak_encls.specs.Answering.{is_write_out, IsCounted};
-ghost use Rattle.ak_encls.specs.Enclave.{frame_at};
 ghost use Rattle.ak_enclu.specs.TcsBytes.{saved_of};
 ghost use Rattle.ak_memory.specs.Granting.{is_walked as is_walked_in};
-ghost use Rattle.ak_paged_machine.specs.Machines.{IsSound};
+ghost use Rattle.ak_paged_machine.specs.Machines.{HasBytes, IsSound, IsState, with_spare};
 ghost use Rattle.ak_paged_machine.specs.Moves.{Moves};
 
 use crate::applied::Applied;
@@ -55,4 +61,93 @@ impl Machine {
     {
         make_move(&self.layout, &mut self.memory, &mut self.cpus, m)
     }
+
+    /// What the kernel may know of the enclave.
+    pub fn layout(&self) -> &Layout
+        ensures { result.now ≡ self.now.layout }
+    {
+        &self.layout
+    }
+
+    /// The frames, the EPCM, the sealed pages and tracking.
+    pub fn leaves(&self) -> &Encls
+        ensures { result.now ≡ self.now.encls }
+    {
+        &self.memory.encls
+    }
+
+    /// The kernel's page table.
+    pub fn table(&self) -> &PageTable
+        ensures { result.now ≡ self.now.table }
+    {
+        &self.memory.table
+    }
+
+    /// A logical processor.
+    pub fn cpu(&self, lp: Lp) -> &Cpu
+        requires { lp.0 < length self.now.cpus }
+        ensures { slice_get self.now.cpus lp.0 ≡ Some result.now }
+    {
+        &self.cpus[lp.0 as usize]
+    }
+
+    /// The machine stands for some history of moves, with as many processors and entries of the page table as its layout says.
+    pub fn stands(&self)
+        ensures { IsSound self.now }
+    {
+        let _layout = &self.layout;
+    }
+
+    /// The bytes of a page, where a frame holds it.
+    pub fn bytes(&self, p: Page) -> Option<&[u8]>
+        ensures held { IfSome result (λ bytes. HasBytes self.now.encls p.0 bytes.now) }
+        ensures none { IfNone result (HasNoFrame self.now.encls.entries p.0) }
+    {
+        match self.memory.encls.epcm().frame_of(p) {
+            Some(frame) => Some(self.memory.encls.frame(frame).as_slice()),
+            None => None,
+        }
+    }
+
+    /// A walk of this kind finds the page.
+    pub fn walkable(&self, p: Page, k: Kind) -> bool
+        ensures walked { result ≡ is_walked_in self.now.encls.entries self.now.table (access_to p.0 k) }
+        ensures stands { (past : History) (state : State) → IsState self.now state → TablesStand self.now.layout past state → p.0 < all_pages self.now.layout
+            → result ≡ is_walkable self.now.layout past p.0 k }
+    {
+        self.memory.is_walked(Fault { page: p, kind: k })
+    }
+
+    /// How many contexts are saved, by the TCS, where a frame holds it.
+    pub fn cssa(&self) -> Option<u32>
+        ensures held { IfSome result (λ saved. (bytes : List ℕ) × HasBytes self.now.encls (the_tcs_page self.now.layout) bytes × (saved ≡ saved_of bytes)) }
+        ensures none { IfNone result (HasNoFrame self.now.encls.entries (the_tcs_page self.now.layout)) }
+        ensures stands { (image : List ℕ) (past : History) (control : Control) (turns : List ProgramTurn) (state : State) → IsState self.now state
+            → Stands self.now.layout image (at_moment past control turns state) → IfSome result (λ saved. saved ≡ length control.stack) }
+    {
+        let tcs = Page(tcs_page(self.layout.perms().len() as u32));
+        match self.memory.encls.epcm().frame_of(tcs) {
+            Some(frame) => Some(saved_contexts(self.memory.encls.frame(frame))),
+            None => None,
+        }
+    }
+
+    /// Makes blank pages, so that so many pages can be written out with no more memory. Where memory runs out it may have made some.
+    pub fn reserve(&mut self, spare: u32) -> Result<(), OutOfMemory>
+        requires { length self.old.encls.handles.sealed_pages + spare < 2 ^ 32 }
+        ensures rest { self.new ≡ with_spare self.old self.new.encls.handles.spare }
+        ensures ok { OnOk result (self.new.encls.handles.spare ≡ max self.old.encls.handles.spare spare) }
+        ensures err { OnErr result (self.old.encls.handles.spare ≤ self.new.encls.handles.spare) }
+        ensures most { self.new.encls.handles.spare ≤ max self.old.encls.handles.spare spare }
+    {
+        self.memory.reserve(spare)
+    }
+}
+
+/// How many contexts the bytes of a TCS say are saved (SDM volume 3D, "Thread Control Structure", CSSA).
+fn saved_contexts(tcs: &[u8; PAGE_SIZE]) -> u32
+    ensures { result ≡ saved_of tcs.now }
+{
+    const CSSA: usize = 24;
+    LittleEndian::read_u32(&tcs[CSSA..])
 }
