@@ -116,19 +116,19 @@ put_back (x ∷ xs) (suc i) c at = ap (λ ys. x ∷ ys) (put_back xs i c at)
 
 -- what EENTER and ERESUME leave, by the page of the TCS and of the code
 pub record EnterFacts (layout : Layout) (cpu : Cpu) (v : ℕ) (busy : Bool) (a : Answer) (c : Cpu) (new old : Enclave) (table : List Pte) (t code : ℕ) : Type 0 where
-  row : a ≡ enter_answer old.entries table t (tcs_at old table t) cpu.inside busy
-  same_cpu : is_done a ≡ false → c ≡ cpu
-  same_encls : is_done a ≡ false → new ≡ old
-  cpu_is : is_done a ≡ true → c ≡ inside_with cpu (entry_regs_at (layout.base + 4096 * code) (saved_of (tcs_at old table t)) v) (held_at table t (saved_of (tcs_at old table t)))
-  to : is_done a ≡ true → EntersTo cpu.lp.0 (pte_at table t).frame.0 (with_pending false (tcs_at old table t)) old new
+  pub row : a ≡ enter_answer old.entries table t (tcs_at old table t) cpu.inside busy
+  pub same_cpu : is_done a ≡ false → c ≡ cpu
+  pub same_encls : is_done a ≡ false → new ≡ old
+  pub cpu_is : is_done a ≡ true → c ≡ inside_with cpu (entry_regs_at (layout.base + 4096 * code) (saved_of (tcs_at old table t)) v) (held_at table t (saved_of (tcs_at old table t)))
+  pub to : is_done a ≡ true → EntersTo cpu.lp.0 (pte_at table t).frame.0 (with_pending false (tcs_at old table t)) old new
 
 pub record ResumeFacts (cpu : Cpu) (busy : Bool) (a : Answer) (c : Cpu) (new old : Enclave) (table : List Pte) (t : ℕ) : Type 0 where
-  row : a ≡ resume_answer old.entries table t (tcs_at old table t) cpu.inside busy
-  same_cpu : is_done a ≡ false → c ≡ cpu
-  same_encls : is_done a ≡ false → new ≡ old
-  cpu_is : is_done a ≡ true → c ≡ inside_with cpu (area_regs (frame_at old.frames (pte_at table (area_page t (saved_of (tcs_at old table t) - 1))).frame.0))
+  pub row : a ≡ resume_answer old.entries table t (tcs_at old table t) cpu.inside busy
+  pub same_cpu : is_done a ≡ false → c ≡ cpu
+  pub same_encls : is_done a ≡ false → new ≡ old
+  pub cpu_is : is_done a ≡ true → c ≡ inside_with cpu (area_regs (frame_at old.frames (pte_at table (area_page t (saved_of (tcs_at old table t) - 1))).frame.0))
       (held_at table t (saved_of (tcs_at old table t) - 1))
-  to : is_done a ≡ true → EntersTo cpu.lp.0 (pte_at table t).frame.0 (with_saved (saved_of (tcs_at old table t) - 1) (tcs_at old table t)) old new
+  pub to : is_done a ≡ true → EntersTo cpu.lp.0 (pte_at table t).frame.0 (with_saved (saved_of (tcs_at old table t) - 1) (tcs_at old table t)) old new
 
 -- ---- No such processor
 
@@ -220,9 +220,9 @@ module _ (parts : Parts) (s : IsSound parts) where
 
       -- refused
       enter_refuses : is_done a ≡ false → Moves parts (Eenter lp v) (plainly a) parts
-      enter_refuses no = stays parts (Eenter lp v) a no (λ state machine.
+      enter_refuses undone = stays parts (Eenter lp v) a undone (λ state machine.
         subst (λ (q : Lp). IsMove parts.layout state state (Eenter q v) a None) (numbered parts lp cpu at state machine)
-        (λ image past control turns st. enter_refused parts.layout walks state cpu.lp v a no (row_here state machine past st.tables) image past control turns st))
+        (λ image past control turns st. enter_refused parts.layout walks state cpu.lp v a undone (row_here state machine past st.tables) image past control turns st))
 
       -- done
       module _ (encls : Enclave) (ok : a ≡ Ok)
@@ -266,13 +266,13 @@ module _ (parts : Parts) (s : IsSound parts) where
       enter_moved c encls same_cpu same_encls cpu_is to = by_answer (is_done a) refl
         where
           by_answer : (b : Bool) → is_done a ≡ b → Moves parts (Eenter lp v) (plainly a) (after c encls)
-          by_answer false no = unchanged lp cpu at c encls (Eenter lp v) (plainly a) (same_cpu no) (same_encls no) (enter_refuses no)
-          by_answer true yes =
+          by_answer false undone = unchanged lp cpu at c encls (Eenter lp v) (plainly a) (same_cpu undone) (same_encls undone) (enter_refuses undone)
+          by_answer true is_so =
               let ok : a ≡ Ok =
               row ∙ outside_done cpu.inside (finds_tcs parts.encls.entries parts.table tcs) busy (enter_area parts.encls.entries parts.table tcs bytes)
-              (enter_done (saved_of bytes == 3) (finds_area parts.encls.entries parts.table (area_page tcs (saved_of bytes)))) (subst (λ x. is_done x ≡ true) row yes) in
+              (enter_done (saved_of bytes == 3) (finds_area parts.encls.entries parts.table (area_page tcs (saved_of bytes)))) (subst (λ x. is_done x ≡ true) row is_so) in
               subst (λ (x : Answer). Moves parts (Eenter lp v) (plainly x) (after c encls)) (sym ok)
-              (subst (λ (x : Cpu). Moves parts (Eenter lp v) (plainly Ok) (after x encls)) (sym (cpu_is yes)) (enter_made encls ok (to yes)))
+              (subst (λ (x : Cpu). Moves parts (Eenter lp v) (plainly Ok) (after x encls)) (sym (cpu_is is_so)) (enter_made encls ok (to is_so)))
 
     -- ---- ERESUME
 
@@ -284,9 +284,9 @@ module _ (parts : Parts) (s : IsSound parts) where
           ∙ sym row
 
       resume_refuses : is_done a ≡ false → Moves parts (Eresume lp) (plainly a) parts
-      resume_refuses no = stays parts (Eresume lp) a no (λ state machine.
+      resume_refuses undone = stays parts (Eresume lp) a undone (λ state machine.
         subst (λ (q : Lp). IsMove parts.layout state state (Eresume q) a None) (numbered parts lp cpu at state machine)
-        (λ image past control turns st. resume_refused parts.layout walks state cpu.lp a no (resume_here state machine past st.tables) image past control turns st))
+        (λ image past control turns st. resume_refused parts.layout walks state cpu.lp a undone (resume_here state machine past st.tables) image past control turns st))
 
       module _ (encls : Enclave) (ok : a ≡ Ok)
           (to : EntersTo cpu.lp.0 (pte_at parts.table tcs).frame.0 (with_saved (saved_of bytes - 1) bytes) parts.encls encls) where
@@ -340,14 +340,14 @@ module _ (parts : Parts) (s : IsSound parts) where
       resume_moved c encls same_cpu same_encls cpu_is to = by_answer (is_done a) refl
         where
           by_answer : (b : Bool) → is_done a ≡ b → Moves parts (Eresume lp) (plainly a) (after c encls)
-          by_answer false no = unchanged lp cpu at c encls (Eresume lp) (plainly a) (same_cpu no) (same_encls no) (resume_refuses no)
-          by_answer true yes =
+          by_answer false undone = unchanged lp cpu at c encls (Eresume lp) (plainly a) (same_cpu undone) (same_encls undone) (resume_refuses undone)
+          by_answer true is_so =
               let ok : a ≡ Ok =
               row ∙ outside_done cpu.inside (finds_tcs parts.encls.entries parts.table tcs) busy (resume_area parts.encls.entries parts.table tcs bytes)
               (resume_done (saved_of bytes == 0) (pending_of bytes) (finds_area parts.encls.entries parts.table (area_page tcs (saved_of bytes - 1))))
-              (subst (λ x. is_done x ≡ true) row yes) in
+              (subst (λ x. is_done x ≡ true) row is_so) in
               subst (λ (x : Answer). Moves parts (Eresume lp) (plainly x) (after c encls)) (sym ok)
-              (subst (λ (x : Cpu). Moves parts (Eresume lp) (plainly Ok) (after x encls)) (sym (cpu_is yes)) (resume_made encls ok (to yes)))
+              (subst (λ (x : Cpu). Moves parts (Eresume lp) (plainly Ok) (after x encls)) (sym (cpu_is is_so)) (resume_made encls ok (to is_so)))
 
     -- ---- Over a memory whose parts are those
 

@@ -22,7 +22,6 @@ use Rattle.ak_enclu.proofs.Left.{saves}
 use Rattle.ak_enclu.specs.Machines.{IsMachine, LeadsToWhere}
 use Rattle.ak_enclu.specs.Passing.{ExitsTo, outside_now}
 use Rattle.ak_enclu.specs.declared.cpu.Cpu.{Cpu}
-use Rattle.ak_memory.specs.declared.memory.Memory.{Memory}
 use Rattle.ak_pte.specs.declared.table.Pte.{Pte}
 use Rattle.ak_paged_machine.specs.Machines.{IsSound, IsState, Parts}
 use Rattle.ak_paged_machine.specs.Moves.{Counts, Moves, MovesTo, plainly}
@@ -99,9 +98,9 @@ module _ (parts : Parts) (s : IsSound parts) (lp : Lp) (cpu : Cpu) (at : slice_g
         few = omega arith;
       }
 
-  -- the same, over a memory whose parts are those
-  pub interrupt_all : (mid : Memory) → mid.encls ≡ parts.encls → mid.table ≡ parts.table → (c : Cpu) → c ≡ outside_now cpu →
-      Moves parts (Interrupt lp) (plainly Ok) (record { layout = parts.layout; encls = encls; table = mid.table; cpus = set parts.cpus lp.0 c })
-  interrupt_all mid same_encls same_table c is =
+  -- the same, over a page table and a processor that are those
+  pub interrupt_all : (table : List Pte) → table ≡ parts.table → (c : Cpu) → c ≡ outside_now cpu →
+      Moves parts (Interrupt lp) (plainly Ok) (record { layout = parts.layout; encls = encls; table = table; cpus = set parts.cpus lp.0 c })
+  interrupt_all table same_table c is =
       subst (λ (t : List Pte). Moves parts (Interrupt lp) (plainly Ok) (record { layout = parts.layout; encls = encls; table = t; cpus = set parts.cpus lp.0 c })) (sym same_table)
       (subst (λ (x : Cpu). Moves parts (Interrupt lp) (plainly Ok) (record parts { encls = encls; cpus = set parts.cpus lp.0 x })) (sym is) interrupt_made)

@@ -52,7 +52,7 @@ module _ (parts : Parts) (m : Move) (a : Answer) (encls : Enclave) (leaf : is_le
   after = record parts { encls = encls }
 
   led : (state : State) → IsState parts state → LeadsTo parts.layout state m encls → is_done a ≡ true → MovesTo parts.layout state m (plainly a) after
-  led state machine to yes =
+  led state machine to is_so =
       let stay = leaf_stays state to.state m leaf to.does in
       plain_moves parts.layout state to.state m a after
       (record {
@@ -65,14 +65,14 @@ module _ (parts : Parts) (m : Move) (a : Answer) (encls : Enclave) (leaf : is_le
           no_more = λ lp many. ap (λ (q : ℕ → Processor). (q lp).inside) stay.processors ∙ machine.processors.no_more lp many;
         };
       })
-      stay.count (no_run_leaf m a leaf) (does_moves parts.layout state to.state m a leaf yes (sym (row parts.layout state machine.paging)) to.does)
+      stay.count (no_run_leaf m a leaf) (does_moves parts.layout state to.state m a leaf is_so (sym (row parts.layout state machine.paging)) to.does)
 
   moved : (state : State) → IsState parts state → (b : Bool) → is_done a ≡ b → MovesTo parts.layout state m (plainly a) after
-  moved state machine true yes = led state machine (done yes parts.layout state machine.paging) yes
-  moved state machine false no =
-      subst (λ (e : Enclave). MovesTo parts.layout state m (plainly a) (record parts { encls = e })) (sym (refused no))
+  moved state machine true is_so = led state machine (done is_so parts.layout state machine.paging) is_so
+  moved state machine false undone =
+      subst (λ (e : Enclave). MovesTo parts.layout state m (plainly a) (record parts { encls = e })) (sym (refused undone))
       (plain_moves parts.layout state state m a parts machine refl (no_run_leaf m a leaf)
-      (leaf_refused parts.layout state m a leaf no (sym (row parts.layout state machine.paging))))
+      (leaf_refused parts.layout state m a leaf undone (sym (row parts.layout state machine.paging))))
 
   pub leaf_made : Moves parts m (plainly a) after
   leaf_made = record {
@@ -80,7 +80,7 @@ module _ (parts : Parts) (m : Move) (a : Answer) (encls : Enclave) (leaf : is_le
     each = refl;
     sized = refl;
     moved = λ state machine. moved state machine (is_done a) refl;
-    refused = λ no. ap (λ (e : Enclave). record parts { encls = e }) (refused no);
+    refused = λ undone. ap (λ (e : Enclave). record parts { encls = e }) (refused undone);
     counts = record { spare = rest.spare; given = rest.given; cycles = rest.cycles };
     few = omega arith;
   }

@@ -105,4 +105,7 @@ any_from state lp k (cpu ∷ cpus) each =
 pub others_inside : (parts : Parts) (state : State) (lp : ℕ) → IsState parts state →
     list_any (λ (cpu : Cpu). cpu.inside && not (cpu.lp.0 == lp)) parts.cpus ≡ list_any (λ q. (state.processors q).inside && not (q == lp)) (range_with_len 0 (length parts.cpus))
 others_inside parts state lp machine =
-    any_from state lp 0 parts.cpus (λ i c at. let was = machine.processors.each i c at in (was.0, was.1.inside))
+    any_from state lp 0 parts.cpus (λ i c at.
+      let was = machine.processors.each i c at in
+      let place : i ≡ 0 + i = omega arith in
+      (was.0 ∙ place, ap (λ q. (state.processors q).inside) (sym place) ∙ was.1.inside))

@@ -1,5 +1,5 @@
 // The machine, and what it lends and tells.
-ghost use Rattle.std.specs.Prelude.{◌≡◌, ℕ, List, ◌<◌, ◌≤◌, ◌+◌, ◌^◌, Some, OnOk, OnErr, IfSome, IfNone, length, slice_get, max};
+ghost use Rattle.std.specs.Prelude.{◌≡◌, true, ℕ, List, ◌<◌, ◌≤◌, ◌+◌, ◌^◌, Some, OnOk, OnErr, IfSome, IfNone, length, slice_get, max};
 ghost use Rattle.ak_core.specs.Mem.{access_to};
 ghost use Rattle.ak_epcm.specs.Entries.{HasNoFrame};
 ghost use Rattle.ak_model.specs.Control.ControlState.{Control};
