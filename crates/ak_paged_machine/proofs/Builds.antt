@@ -1,6 +1,5 @@
 -- The machine of a build: its processors, and that it stands for the empty history.
-use Rattle.std.proofs.Common.{◌≡◌, ℕ, ◌<◌, ◌≤◌, Bool, true, false, List, [], length, refl, ap, sym, ◌∙◌, subst}
-use Rattle.std.proofs.lemmas.Option.{same_Some, slice_get_past}
+use Rattle.std.proofs.Common.{◌≡◌, ℕ, ◌≤◌, false, List, [], length, refl, ap, sym, ◌∙◌, subst}
 use Rattle.std.specs.Prelude.{Option, Some, None, slice_get}
 use Rattle.ak_core.specs.Layout.{Layout, IsValid}
 use Rattle.ak_core.specs.declared.registers.Mode.{Mode}
@@ -16,6 +15,8 @@ use Rattle.ak_enclu.proofs.Changes.{nothing_cached}
 use Rattle.ak_enclu.specs.Machines.{IsProcessor}
 use Rattle.ak_tlb.specs.Fills.{HoldsFills}
 use Rattle.ak_tlb.specs.declared.translation.Translation.{Translation}
+use Rattle.ak_encls.specs.Enclave.{Enclave}
+use Rattle.ak_pte.specs.declared.table.Pte.{Pte}
 use Rattle.ak_enclu.specs.declared.cpu.Cpu.{Cpu}
 use Rattle.ak_paged_machine.specs.Machines.{AreNew, AreProcessors, IsJustBuilt, IsSound, IsState, Parts}
 
@@ -58,28 +59,42 @@ module _ (cpus : List Cpu) where
     }
 
 module _ (image : Image) (frames lps : ℕ) (b : Built) (cpus : List Cpu) (new : AreNew lps cpus)
-    (as : BuiltAs (sealed_layout image frames lps) image.bytes b (new_processors cpus)) where
+    (m : BuiltAs (sealed_layout image frames lps) image.bytes b (new_processors cpus)) where
   abbrev parts : Parts
   parts = record { layout = sealed_layout image frames lps; encls = b.encls; table = b.table; cpus = cpus }
 
-  is_state : IsState parts as.state
-  is_state = record { paging = as.paging; mapped = as.mapped; processors = are_processors cpus lps new as.state as.processors_are }
+  is_state : IsState parts m.state
+  is_state = record { paging = m.paging; mapped = m.mapped; processors = are_processors cpus lps new m.state m.processors_are }
 
   pub just_built : IsJustBuilt image.bytes parts
-  just_built = record { state = as.state; machine = is_state; built = as.built }
+  just_built = record { state = m.state; machine = is_state; built = m.built }
 
   pub sound_built : IsValid (sealed_layout image frames lps) → IsSound parts
   sound_built valid = record {
     sealed = refl;
     each = new.count;
-    sized = as.sized;
+    sized = m.sized;
     somewhere = record {
       image = image.bytes;
       past = [];
       control = control_at_build (sealed_layout image frames lps) [];
       turns = [];
-      state = as.state;
+      state = m.state;
       machine = is_state;
-      stands = built_stands (sealed_layout image frames lps) image.bytes as.state valid as.built;
+      stands = built_stands (sealed_layout image frames lps) image.bytes m.state valid m.built;
     };
   }
+
+  -- with the parts as they stand in the machine
+  module _ (layout : Layout) (encls : Enclave) (table : List Pte) (same_layout : layout ≡ sealed_layout image frames lps) (same_encls : encls ≡ b.encls) (same_table : table ≡ b.table) where
+    moved : (P : Parts → Type 0) → P parts → P (record { layout = layout; encls = encls; table = table; cpus = cpus })
+    moved P here =
+        subst (λ (l : Layout). P (record { layout = l; encls = encls; table = table; cpus = cpus })) (sym same_layout)
+        (subst (λ (e : Enclave). P (record parts { encls = e; table = table })) (sym same_encls)
+        (subst (λ (t : List Pte). P (record parts { table = t })) (sym same_table) here))
+
+    pub sound_here : IsValid layout → IsSound (record { layout = layout; encls = encls; table = table; cpus = cpus })
+    sound_here valid = moved IsSound (sound_built (subst IsValid same_layout valid))
+
+    pub built_here : IsJustBuilt image.bytes (record { layout = layout; encls = encls; table = table; cpus = cpus })
+    built_here = moved (IsJustBuilt image.bytes) just_built

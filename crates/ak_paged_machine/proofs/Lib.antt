@@ -8,3 +8,4 @@ mod Held
 mod Interrupts
 mod Enterings
 mod Builds
+mod Walks

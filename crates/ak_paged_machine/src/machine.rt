@@ -19,12 +19,11 @@ ghost use Rattle.ak_paged_machine.specs.Moves.{Moves};
 
 use crate::applied::Applied;
 use crate::kernel::make_move;
-use ak_core::{Fault, Kind, Layout, Lp, Move, OutOfMemory, PAGE_SIZE, Page, tcs_page};
+use ak_core::{Fault, Kind, Layout, Lp, Move, OutOfMemory, Page, tcs_page};
 use ak_encls::Encls;
-use ak_enclu::Cpu;
+use ak_enclu::{Cpu, saved};
 use ak_memory::Memory;
 use ak_pte::PageTable;
-use byteorder::{ByteOrder, LittleEndian};
 use std::marker::Model;
 
 /// One enclave on a machine: its frames and what is known of them, the kernel's page table, and the processors.
@@ -127,7 +126,7 @@ impl Machine {
     {
         let tcs = Page(tcs_page(self.layout.perms().len() as u32));
         match self.memory.encls.epcm().frame_of(tcs) {
-            Some(frame) => Some(saved_contexts(self.memory.encls.frame(frame))),
+            Some(frame) => Some(saved(self.memory.encls.frame(frame))),
             None => None,
         }
     }
@@ -142,12 +141,4 @@ impl Machine {
     {
         self.memory.reserve(spare)
     }
-}
-
-/// How many contexts the bytes of a TCS say are saved (SDM volume 3D, "Thread Control Structure", CSSA).
-fn saved_contexts(tcs: &[u8; PAGE_SIZE]) -> u32
-    ensures { result ≡ saved_of tcs.now }
-{
-    const CSSA: usize = 24;
-    LittleEndian::read_u32(&tcs[CSSA..])
 }
