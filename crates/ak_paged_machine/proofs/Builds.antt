@@ -1,9 +1,7 @@
 -- The machine of a build: its processors, and that it stands for the empty history.
-use Rattle.std.proofs.Common.{◌≡◌, ℕ, ◌≤◌, false, List, [], length, refl, ap, sym, ◌∙◌, subst}
+use Rattle.std.proofs.Common.{◌≡◌, ℕ, false, List, [], refl, ap, sym, ◌∙◌, subst}
 use Rattle.std.specs.Prelude.{Option, Some, None, slice_get}
 use Rattle.ak_core.specs.Layout.{Layout, IsValid}
-use Rattle.ak_core.specs.declared.registers.Mode.{Mode}
-use Rattle.ak_core.specs.declared.registers.Regs.{Regs}
 use Rattle.ak_model.specs.Control.ControlState.{control_at_build}
 use Rattle.ak_model.specs.Flat.FlatRuns.{zeroed}
 use Rattle.ak_relation.proofs.Runs.BuiltStands.{built_stands}
@@ -21,7 +19,7 @@ use Rattle.ak_enclu.specs.declared.cpu.Cpu.{Cpu}
 use Rattle.ak_paged_machine.specs.Machines.{AreNew, AreProcessors, IsJustBuilt, IsSound, IsState, Parts}
 
 -- a processor that is outside, with these registers and frames
-outside_as : Option Cpu → Processor
+abbrev outside_as : Option Cpu → Processor
 outside_as None = record { inside = false; regs = zeroed 0; tcs = 0; ssa = 0; fills = [] }
 outside_as (Some cpu) = record { inside = false; regs = cpu.regs; tcs = cpu.tcs.0; ssa = cpu.ssa.0; fills = [] }
 
@@ -34,7 +32,7 @@ is_flushed None = refl
 is_flushed (Some cpu) = refl
 
 module _ (cpus : List Cpu) where
-  pub new_processors : ℕ → Processor
+  abbrev pub new_processors : ℕ → Processor
   new_processors lp = outside_as (slice_get cpus lp)
 
   pub all_outside : AreOutside new_processors

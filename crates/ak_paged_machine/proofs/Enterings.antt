@@ -1,5 +1,5 @@
 -- Entering and resuming.
-use Rattle.std.proofs.Common.{◌≡◌, ℕ, zero, suc, ◌+◌, ◌-◌, ◌*◌, ◌^◌, ◌<◌, ◌≤◌, Bool, true, false, not, ◌&&◌, List, [], ◌∷◌, length, set, nat_lt, ◌==◌, if◌then◌else◌, refl, ap, sym, ◌∙◌, subst, arith}
+use Rattle.std.proofs.Common.{◌≡◌, ℕ, zero, suc, ◌+◌, ◌-◌, ◌*◌, ◌^◌, ◌<◌, ◌≤◌, Bool, true, false, not, ◌&&◌, List, [], ◌∷◌, set, nat_lt, ◌==◌, if◌then◌else◌, refl, ap, sym, ◌∙◌, subst, arith}
 use Rattle.std.proofs.lemmas.Bool.Decides.{nat_tests}
 use Rattle.std.proofs.lemmas.List.{length-set}
 use Rattle.std.proofs.lemmas.Bool.{eqb-false}
@@ -7,9 +7,8 @@ use Rattle.std.proofs.lemmas.Option.{same_Some}
 use Rattle.std.specs.List.{list_any, range_with_len}
 use Rattle.std.specs.Prelude.{None, Some, slice_get}
 use Rattle.ak_core.specs.Layout.{Layout}
-use Rattle.ak_core.specs.declared.build.Build.{Build}
 use Rattle.ak_core.specs.declared.moves.Answer.{Answer}
-use Rattle.ak_core.specs.declared.moves.Answer.TheVariants.{Ok, NoLp, Inside, TcsFault, Busy, Gp, Pending, SsaFault}
+use Rattle.ak_core.specs.declared.moves.Answer.TheVariants.{Ok, NoLp, Gp, Pending, SsaFault}
 use Rattle.ak_core.specs.declared.moves.Move.{Move}
 use Rattle.ak_core.specs.declared.moves.Move.TheVariants.{Eenter, Eresume}
 use Rattle.ak_core.specs.declared.page.Lp.{Lp}
@@ -37,7 +36,7 @@ use Rattle.ak_encls.specs.Enclave.{Enclave, frame_at}
 use Rattle.ak_enclu.proofs.Entered.{entered, resumed}
 use Rattle.ak_enclu.proofs.Rows.{bytes_same, enters_by_row, resumes_by_row}
 use Rattle.ak_enclu.specs.EnterAnswers.{area_page, enter_answer, enter_area, finds_area, finds_tcs, held_at, resume_answer, resume_area, unless_outside}
-use Rattle.ak_enclu.specs.Machines.{IsMachine, LeadsToWhere}
+use Rattle.ak_enclu.specs.Machines.{LeadsToWhere}
 use Rattle.ak_enclu.specs.Passing.{EntersTo, inside_with, tcs_at}
 use Rattle.ak_enclu.specs.Processors.{entry_regs_at}
 use Rattle.ak_enclu.specs.TcsBytes.{pending_of, saved_of, with_pending, with_saved}
@@ -46,9 +45,9 @@ use Rattle.ak_memory.specs.declared.memory.Memory.{Memory}
 use Rattle.ak_pte.specs.declared.table.Pte.{Pte}
 use Rattle.ak_paged_machine.specs.declared.applied.Applied.{Applied}
 use Rattle.ak_paged_machine.specs.Machines.{IsSound, IsState, Parts}
-use Rattle.ak_paged_machine.specs.Moves.{Counts, Moves, MovesTo, plainly}
+use Rattle.ak_paged_machine.specs.Moves.{Moves, MovesTo, plainly}
 use Rattle.ak_paged_machine.proofs.Held.{few_saved, frames_stand, says_flag}
-use Rattle.ak_paged_machine.proofs.Plain.{counts_none, no_run, plain_moves, stays}
+use Rattle.ak_paged_machine.proofs.Plain.{counts_none, plain_moves, stays}
 use Rattle.ak_paged_machine.proofs.Processors.{numbered, one_machine, others_inside, replaced}
 use Rattle.ak_paged_machine.proofs.Runs.{own_low}
 

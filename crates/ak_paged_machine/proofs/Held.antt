@@ -1,6 +1,6 @@
 -- What the moment at which a machine stands says of its frames: the TCS has few saved contexts, and a processor that is inside holds
 -- frames of pages.
-use Rattle.std.proofs.Common.{◌≡◌, ℕ, ◌≤◌, Bool, true, false, List, [], length, refl, ap, sym, ◌∙◌, subst, ◌==◌, arith}
+use Rattle.std.proofs.Common.{◌≡◌, ℕ, ◌≤◌, true, false, List, length, ap, sym, ◌∙◌, subst, ◌==◌, arith}
 use Rattle.std.specs.Prelude.{Option, Some, slice_get}
 use Rattle.ak_core.specs.declared.page.Entry.{Entry}
 use Rattle.ak_core.specs.declared.page.Lp.{Lp}
@@ -20,7 +20,7 @@ use Rattle.ak_enclu.specs.Passing.{HasFewSaved}
 use Rattle.ak_enclu.specs.TcsBytes.{saved_of}
 use Rattle.ak_enclu.specs.declared.cpu.Cpu.{Cpu}
 use Rattle.ak_paged_machine.specs.Machines.{IsSound, IsState, Parts}
-use Rattle.ak_paged_machine.proofs.Processors.{numbered, one_machine}
+use Rattle.ak_paged_machine.proofs.Processors.{one_machine}
 use Rattle.ak_paged_machine.proofs.Runs.{inside_there}
 
 module _ (parts : Parts) (s : IsSound parts) where

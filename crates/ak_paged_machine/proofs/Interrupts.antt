@@ -1,11 +1,10 @@
 -- An interrupt of a processor that is inside.
-use Rattle.std.proofs.Common.{◌≡◌, ℕ, ◌+◌, ◌≤◌, Bool, true, false, List, ◌∷◌, length, set, map, refl, ap, sym, ◌∙◌, subst, arith, ◌==◌}
+use Rattle.std.proofs.Common.{◌≡◌, ℕ, Bool, true, false, List, ◌∷◌, set, refl, ap, sym, ◌∙◌, subst, arith, ◌==◌}
 use Rattle.std.proofs.lemmas.List.{length-map, length-set}
-use Rattle.std.specs.Prelude.{None, Some, slice_get, ◌||◌}
+use Rattle.std.specs.Prelude.{None, Some, slice_get}
 use Rattle.ak_core.specs.declared.moves.Answer.TheVariants.{Ok}
 use Rattle.ak_core.specs.declared.moves.Move.TheVariants.{Interrupt}
 use Rattle.ak_core.specs.declared.page.Lp.{Lp}
-use Rattle.ak_core.specs.declared.registers.Mode.{Mode}
 use Rattle.ak_model.specs.Paging.Tracking.{without}
 use Rattle.ak_relation.proofs.Exits.InterruptMoves.{interrupt_moves}
 use Rattle.ak_relation.specs.Bytes.Pages.{IsTcs, flag_number}
@@ -15,16 +14,16 @@ use Rattle.ak_relation.specs.State.MachineState.{State}
 use Rattle.ak_ssa.specs.SavedFrames.{NoCause}
 use Rattle.ak_ssa.specs.SavedRegisters.{AreRegs}
 use Rattle.ak_ssa.specs.declared.cause.Why.{Why}
-use Rattle.ak_track.specs.Steps.{TrackStep, EntersBy, LeavesBy, cycles_by}
+use Rattle.ak_track.specs.Steps.{TrackStep, LeavesBy, cycles_by}
 use Rattle.ak_track.specs.Tracking.{HoldsSteps, Marks}
 use Rattle.ak_encls.specs.Enclave.{Enclave, frame_at}
 use Rattle.ak_enclu.proofs.Left.{saves}
-use Rattle.ak_enclu.specs.Machines.{IsMachine, LeadsToWhere}
+use Rattle.ak_enclu.specs.Machines.{LeadsToWhere}
 use Rattle.ak_enclu.specs.Passing.{ExitsTo, outside_now}
 use Rattle.ak_enclu.specs.declared.cpu.Cpu.{Cpu}
 use Rattle.ak_pte.specs.declared.table.Pte.{Pte}
 use Rattle.ak_paged_machine.specs.Machines.{IsSound, IsState, Parts}
-use Rattle.ak_paged_machine.specs.Moves.{Counts, Moves, MovesTo, plainly}
+use Rattle.ak_paged_machine.specs.Moves.{Moves, MovesTo, plainly}
 use Rattle.ak_paged_machine.proofs.Held.{frames_stand, saved, saved_few, tcs_says}
 use Rattle.ak_paged_machine.proofs.Plain.{counts_none, plain_moves}
 use Rattle.ak_paged_machine.proofs.Processors.{numbered, one_machine, replaced, same_inside}

@@ -1,10 +1,8 @@
 -- A move in which no turn is made, and one that is refused.
-use Rattle.std.proofs.Common.{◌≡◌, ℕ, ◌+◌, ◌≤◌, Bool, true, false, refl, ap, sym, ◌∙◌, subst, arith, length}
+use Rattle.std.proofs.Common.{◌≡◌, ◌+◌, false, refl, ap, ◌∙◌, arith, length}
 use Rattle.std.specs.Prelude.{None}
 use Rattle.ak_core.specs.Layout.{Layout}
-use Rattle.ak_core.specs.declared.event.Event.{Event}
 use Rattle.ak_core.specs.declared.moves.Answer.{Answer}
-use Rattle.ak_core.specs.declared.moves.Exit.{Exit}
 use Rattle.ak_core.specs.declared.moves.Move.{Move}
 use Rattle.ak_core.specs.declared.moves.Move.TheVariants.{Run}
 use Rattle.ak_model.specs.Kernels.Repeats.{is_done}
@@ -15,7 +13,7 @@ use Rattle.ak_relation.specs.State.MachineState.{State}
 use Rattle.ak_encls.specs.Answering.{given_by}
 use Rattle.ak_encls.specs.Enclave.{Enclave}
 use Rattle.ak_paged_machine.specs.Machines.{IsState, Parts}
-use Rattle.ak_paged_machine.specs.Moves.{Counts, Moves, MovesTo, plainly, turns_in}
+use Rattle.ak_paged_machine.specs.Moves.{Counts, Moves, MovesTo, plainly}
 
 -- what is refused gives no handle, and is no run
 given_none : (a : Answer) → is_done a ≡ false → given_by a ≡ 0

@@ -1,14 +1,13 @@
 -- A run of a processor, and the refusal of a run and of an interrupt.
-use Rattle.std.proofs.Common.{◌≡◌, ℕ, ◌≤◌, ◌<◌, Bool, true, false, not, List, length, set, nat_lt, ◌==◌, refl, ap, sym, ◌∙◌, subst, arith, if◌then◌else◌}
+use Rattle.std.proofs.Common.{◌≡◌, ℕ, ◌≤◌, ◌<◌, true, false, not, length, set, nat_lt, refl, ap, sym, ◌∙◌, subst, arith, if◌then◌else◌}
 use Rattle.std.proofs.lemmas.Bool.Decides.{nat_tests}
 use Rattle.std.proofs.lemmas.List.{length-set}
-use Rattle.std.specs.Prelude.{None, Some, slice_get, is_some}
+use Rattle.std.specs.Prelude.{None, Some, slice_get}
 use Rattle.ak_core.specs.declared.moves.Answer.{Answer}
 use Rattle.ak_core.specs.declared.moves.Answer.TheVariants.{NoLp, Outside}
 use Rattle.ak_core.specs.declared.moves.Move.TheVariants.{Interrupt, Run}
 use Rattle.ak_core.specs.declared.page.Lp.{Lp}
 use Rattle.ak_model.specs.Paging.Inside.{inside}
-use Rattle.ak_pte.specs.declared.table.Pte.{Pte}
 use Rattle.ak_relation.proofs.Runs.OutsideMoves.{interrupt_refused, run_refused}
 use Rattle.ak_relation.specs.Relation.Does.{IsMove}
 use Rattle.ak_relation.specs.Relation.TurnByTurn.{outside_answer}
@@ -21,7 +20,7 @@ use Rattle.ak_turns.specs.WholeRuns.{RunKeeps, RunsTo, Stays}
 use Rattle.ak_turns.specs.declared.notes.Ran.{Ran}
 use Rattle.ak_paged_machine.specs.declared.applied.Applied.{Applied}
 use Rattle.ak_paged_machine.specs.Machines.{IsSound, IsState, Parts}
-use Rattle.ak_paged_machine.specs.Moves.{Counts, Moves, MovesTo, plainly}
+use Rattle.ak_paged_machine.specs.Moves.{Moves, MovesTo, plainly}
 use Rattle.ak_paged_machine.proofs.Plain.{stays}
 use Rattle.ak_paged_machine.proofs.Processors.{lp_low, numbered, one_machine, replaced, same_inside}
 

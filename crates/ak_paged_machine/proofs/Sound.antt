@@ -1,5 +1,5 @@
 -- A machine that stands for a history stands for a longer one after a move.
-use Rattle.std.proofs.Common.{◌≡◌, ℕ, ◌∷◌, ap, sym, subst, ◌∙◌}
+use Rattle.std.proofs.Common.{ℕ, ◌∷◌, ap, sym, subst, ◌∙◌}
 use Rattle.ak_core.specs.Layout.{Layout}
 use Rattle.ak_core.specs.declared.moves.Move.{Move}
 use Rattle.ak_model.specs.Paging.Pages.{all_pages}

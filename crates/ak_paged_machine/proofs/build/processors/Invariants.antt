@@ -1,4 +1,3 @@
-use Rattle.std.proofs.Common.{◌≡◌}
 use Rattle.ak_paged_machine.specs.Machines.{AreNew}
 use Rattle.ak_paged_machine.proofs.build.processors.Given as goal
 

@@ -1,4 +1,4 @@
-use Rattle.std.proofs.Common.{ℕ, zero, suc, ◌<◌, ◌^◌, List, [], ◌∷◌, get_or, Fits, w64, arith}
+use Rattle.std.proofs.Common.{ℕ, suc, List, [], ◌∷◌, get_or, Fits, w64, arith}
 use Rattle.ak_ssa.specs.SavedRegisters.{AreWords}
 use Rattle.ak_paged_machine.proofs.entering.are_words.Goals as goal
 

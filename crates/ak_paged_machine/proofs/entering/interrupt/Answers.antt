@@ -1,7 +1,6 @@
-use Rattle.std.proofs.Common.{◌≡◌, ◌≤◌, ◌<◌, true, List, length, refl, sym, ap, ◌∙◌, subst, arith}
+use Rattle.std.proofs.Common.{◌≡◌, ◌≤◌, ◌<◌, true, length, refl, sym, ap, ◌∙◌, subst, arith}
 use Rattle.std.proofs.lemmas.Option.{same_Some, slice_get_read}
 use Rattle.std.specs.Prelude.{Some, slice_get}
-use Rattle.ak_core.specs.declared.registers.Regs.{Regs}
 use Rattle.ak_epcm.specs.Entries.{entry_at, is_of_page}
 use Rattle.ak_ssa.specs.SavedRegisters.{AreRegs}
 use Rattle.ak_ssa.specs.declared.cause.Why.{Why}

@@ -1,4 +1,4 @@
-use Rattle.std.proofs.Common.{◌≡◌, ◌≤◌, ◌<◌, ◌+◌, ◌^◌, ◌==◌, ◌&&◌, not, ℕ, true, List, length, refl, sym, ap, ◌∙◌, subst, arith}
+use Rattle.std.proofs.Common.{◌≡◌, ◌<◌, ◌==◌, ◌&&◌, not, ℕ, length, refl, sym, ap, ◌∙◌, subst, arith}
 use Rattle.std.proofs.lemmas.Option.{slice_get_read}
 use Rattle.std.specs.List.{list_any}
 use Rattle.std.specs.Prelude.{Some, slice_get}
@@ -7,7 +7,7 @@ use Rattle.ak_encls.specs.Enclave.{Enclave}
 use Rattle.ak_enclu.specs.Passing.{HasFewSaved}
 use Rattle.ak_enclu.specs.declared.cpu.Cpu.{Cpu}
 use Rattle.ak_paged_machine.specs.Machines.{Parts, parts_of}
-use Rattle.ak_paged_machine.proofs.Enterings.{ResumeFacts, no_resume, resume_all}
+use Rattle.ak_paged_machine.proofs.Enterings.{no_resume, resume_all}
 use Rattle.ak_paged_machine.proofs.Held.{few_saved}
 use Rattle.ak_paged_machine.proofs.entering.resume.Goals as goal
 

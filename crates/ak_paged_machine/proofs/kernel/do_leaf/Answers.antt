@@ -1,4 +1,4 @@
-use Rattle.std.proofs.Common.{◌≡◌, List, sym, subst}
+use Rattle.std.proofs.Common.{List, sym, subst}
 use Rattle.ak_pte.specs.declared.table.Pte.{Pte}
 use Rattle.ak_paged_machine.specs.Machines.{Parts, parts_of}
 use Rattle.ak_paged_machine.specs.Moves.{Moves, plainly}

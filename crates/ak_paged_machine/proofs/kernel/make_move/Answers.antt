@@ -1,4 +1,4 @@
-use Rattle.std.proofs.Common.{◌≡◌, sym, subst}
+use Rattle.std.proofs.Common.{sym, subst}
 use Rattle.ak_paged_machine.specs.declared.applied.Applied.{Applied}
 use Rattle.ak_paged_machine.specs.Machines.{Parts, parts_of}
 use Rattle.ak_paged_machine.specs.Moves.{Moves}

@@ -1,4 +1,4 @@
-use Rattle.std.proofs.Common.{◌≡◌, sym, ap, ◌∙◌, subst}
+use Rattle.std.proofs.Common.{sym, ◌∙◌, subst}
 use Rattle.ak_core.specs.declared.moves.Move.TheVariants.{ReadPte}
 use Rattle.ak_pte.specs.declared.table.Pte.{Pte}
 use Rattle.ak_relation.specs.State.TableChanges.{pte_answer}

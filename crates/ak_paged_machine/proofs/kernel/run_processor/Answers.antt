@@ -1,4 +1,4 @@
-use Rattle.std.proofs.Common.{◌≡◌, ◌≤◌, ◌<◌, List, length, refl, sym, ap, ◌∙◌, subst, arith, set}
+use Rattle.std.proofs.Common.{◌≡◌, ◌<◌, List, length, refl, sym, ap, ◌∙◌, subst, arith, set}
 use Rattle.std.proofs.lemmas.Option.{same_Some, slice_get_read}
 use Rattle.std.specs.Prelude.{Some, slice_get}
 use Rattle.ak_core.specs.declared.moves.Move.TheVariants.{Run}
@@ -7,7 +7,7 @@ use Rattle.ak_turns.specs.WholeRuns.{RunsTo}
 use Rattle.ak_enclu.specs.declared.cpu.Cpu.{Cpu}
 use Rattle.ak_paged_machine.specs.declared.applied.Applied.{Applied}
 use Rattle.ak_paged_machine.specs.Machines.{Parts, parts_of}
-use Rattle.ak_paged_machine.specs.Moves.{Moves, plainly}
+use Rattle.ak_paged_machine.specs.Moves.{Moves}
 use Rattle.ak_paged_machine.proofs.Runs.{no_run, outside_run, own_low, run_applied, run_made, stays_inside}
 use Rattle.ak_paged_machine.proofs.kernel.run_processor.Goals as goal
 

@@ -1,4 +1,3 @@
-use Rattle.std.proofs.Common.{◌≡◌}
 use Rattle.ak_paged_machine.specs.Machines.{parts_of}
 use Rattle.ak_paged_machine.proofs.Sound.{sound_after}
 use Rattle.ak_paged_machine.proofs.machine.Machine.apply.Goals as goal

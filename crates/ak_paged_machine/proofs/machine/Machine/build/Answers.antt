@@ -1,4 +1,4 @@
-use Rattle.std.proofs.Common.{◌≡◌, List}
+use Rattle.std.proofs.Common.{List}
 use Rattle.ak_build.specs.declared.building.Built.{Built}
 use Rattle.ak_enclu.specs.declared.cpu.Cpu.{Cpu}
 use Rattle.ak_paged_machine.proofs.Builds.{all_outside, built_here, new_processors, sound_here}

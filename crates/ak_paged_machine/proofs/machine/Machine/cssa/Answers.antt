@@ -1,4 +1,4 @@
-use Rattle.std.proofs.Common.{◌≡◌, ℕ, List, length, ap, sym, ◌∙◌}
+use Rattle.std.proofs.Common.{◌≡◌, ℕ, List, length, ap, ◌∙◌}
 use Rattle.ak_model.specs.Paging.Pages.{tcs_page}
 use Rattle.ak_encls.specs.Enclave.{frame_at}
 use Rattle.ak_enclu.specs.TcsBytes.{saved_of}

@@ -1,4 +1,4 @@
-use Rattle.std.proofs.Common.{◌≡◌, ap, ◌∙◌}
+use Rattle.std.proofs.Common.{ap, ◌∙◌}
 use Rattle.ak_core.specs.Mem.{access_to}
 use Rattle.ak_memory.specs.Granting.{is_walked}
 use Rattle.ak_paged_machine.specs.Machines.{Parts}
