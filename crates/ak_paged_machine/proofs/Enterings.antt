@@ -168,7 +168,7 @@ module _ (parts : Parts) (s : IsSound parts) where
   entered_counts lp cpu at encls f bytes to m c moved =
       let w = s.somewhere in
       let cycles = entered_cycles parts.encls.track encls.track parts.layout.lps cpu.lp.0 w.state.track w.machine.paging.track
-        (to.track parts.layout.lps w.state.track w.machine.paging.track) in
+      (to.track parts.layout.lps w.state.track w.machine.paging.track) in
       record {
         layout = refl;
         each = length-set parts.cpus lp.0 c;
@@ -220,8 +220,8 @@ module _ (parts : Parts) (s : IsSound parts) where
       -- refused
       enter_refuses : is_done a ≡ false → Moves parts (Eenter lp v) (plainly a) parts
       enter_refuses undone = stays parts (Eenter lp v) a undone (λ state machine.
-        subst (λ (q : Lp). IsMove parts.layout state state (Eenter q v) a None) (numbered parts lp cpu at state machine)
-        (λ image past control turns st. enter_refused parts.layout walks state cpu.lp v a undone (row_here state machine past st.tables) image past control turns st))
+          subst (λ (q : Lp). IsMove parts.layout state state (Eenter q v) a None) (numbered parts lp cpu at state machine)
+          (λ image past control turns st. enter_refused parts.layout walks state cpu.lp v a undone (row_here state machine past st.tables) image past control turns st))
 
       -- done
       module _ (encls : Enclave) (ok : a ≡ Ok)
@@ -284,8 +284,8 @@ module _ (parts : Parts) (s : IsSound parts) where
 
       resume_refuses : is_done a ≡ false → Moves parts (Eresume lp) (plainly a) parts
       resume_refuses undone = stays parts (Eresume lp) a undone (λ state machine.
-        subst (λ (q : Lp). IsMove parts.layout state state (Eresume q) a None) (numbered parts lp cpu at state machine)
-        (λ image past control turns st. resume_refused parts.layout walks state cpu.lp a undone (resume_here state machine past st.tables) image past control turns st))
+          subst (λ (q : Lp). IsMove parts.layout state state (Eresume q) a None) (numbered parts lp cpu at state machine)
+          (λ image past control turns st. resume_refused parts.layout walks state cpu.lp a undone (resume_here state machine past st.tables) image past control turns st))
 
       module _ (encls : Enclave) (ok : a ≡ Ok)
           (to : EntersTo cpu.lp.0 (pte_at parts.table tcs).frame.0 (with_saved (saved_of bytes - 1) bytes) parts.encls encls) where

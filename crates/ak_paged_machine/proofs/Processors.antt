@@ -56,8 +56,8 @@ module _ (parts : Parts) (lp : Lp) (cpu : Cpu) (at : slice_get parts.cpus lp.0 �
       each_at q c true is got =
           let P : ℕ → Type 0 = λ i. slice_get (set parts.cpus lp.0 after) i ≡ Some c → (c.lp.0 ≡ i) × IsProcessor c (new.processors i) in
           let here : P lp.0 = λ g.
-            subst (λ (x : Cpu). (x.lp.0 ≡ lp.0) × IsProcessor x (new.processors lp.0)) (sym (set_there parts.cpus lp.0 after c g))
-            (ap (λ (l : Lp). l.0) (same ∙ numbered), its_processor) in
+          subst (λ (x : Cpu). (x.lp.0 ≡ lp.0) × IsProcessor x (new.processors lp.0)) (sym (set_there parts.cpus lp.0 after c g))
+          (ap (λ (l : Lp). l.0) (same ∙ numbered), its_processor) in
           subst P (sym (eqb-true q lp.0 is)) here got
       each_at q c false is got =
           let was = machine.processors.each q c (set_elsewhere parts.cpus lp.0 q after c is got) in
@@ -96,14 +96,14 @@ any_from state lp k (cpu ∷ cpus) each =
     ap (λ b. b || list_any (λ (c : Cpu). c.inside && not (c.lp.0 == lp)) cpus) (ap (λ b. b && not (cpu.lp.0 == lp)) within ∙ ap (λ q. (state.processors k).inside && not (q == lp)) number)
     ∙ ap (λ b. ((state.processors k).inside && not (k == lp)) || b)
     (any_from state lp (k + 1) cpus (λ i c at.
-      let was = each (suc i) c at in
-      let place : k + suc i ≡ k + 1 + i = omega arith in
-      (was.0 ∙ place, ap (λ q. (state.processors q).inside) (sym place) ∙ was.1)))
+    let was = each (suc i) c at in
+    let place : k + suc i ≡ k + 1 + i = omega arith in
+    (was.0 ∙ place, ap (λ q. (state.processors q).inside) (sym place) ∙ was.1)))
 
 pub others_inside : (parts : Parts) (state : State) (lp : ℕ) → IsState parts state →
     list_any (λ (cpu : Cpu). cpu.inside && not (cpu.lp.0 == lp)) parts.cpus ≡ list_any (λ q. (state.processors q).inside && not (q == lp)) (range_with_len 0 (length parts.cpus))
 others_inside parts state lp machine =
     any_from state lp 0 parts.cpus (λ i c at.
-      let was = machine.processors.each i c at in
-      let place : i ≡ 0 + i = omega arith in
-      (was.0 ∙ place, ap (λ q. (state.processors q).inside) (sym place) ∙ was.1.inside))
+    let was = machine.processors.each i c at in
+    let place : i ≡ 0 + i = omega arith in
+    (was.0 ∙ place, ap (λ q. (state.processors q).inside) (sym place) ∙ was.1.inside))

@@ -39,11 +39,11 @@ module _ (parts : Parts) (s : IsSound parts) (lp : Lp) (none : parts.layout.lps 
 
   pub no_run : (n : ℕ) → Moves parts (Run lp n) (plainly NoLp) parts
   no_run n = stays parts (Run lp n) NoLp refl (λ state machine.
-    subst (λ (a : Answer). IsMove parts.layout state state (Run lp n) a None) named (run_refused parts.layout state lp (none_inside state machine) n))
+      subst (λ (a : Answer). IsMove parts.layout state state (Run lp n) a None) named (run_refused parts.layout state lp (none_inside state machine) n))
 
   pub no_interrupt : Moves parts (Interrupt lp) (plainly NoLp) parts
   no_interrupt = stays parts (Interrupt lp) NoLp refl (λ state machine.
-    subst (λ (a : Answer). IsMove parts.layout state state (Interrupt lp) a None) named (interrupt_refused parts.layout state lp (none_inside state machine)))
+      subst (λ (a : Answer). IsMove parts.layout state state (Interrupt lp) a None) named (interrupt_refused parts.layout state lp (none_inside state machine)))
 
 -- ---- A processor that is outside
 
@@ -66,11 +66,11 @@ module _ (parts : Parts) (s : IsSound parts) (lp : Lp) (cpu : Cpu) (at : slice_g
 
     pub outside_run : (n : ℕ) → Moves parts (Run lp n) (plainly Outside) parts
     outside_run n = stays parts (Run lp n) Outside refl (λ state machine.
-      subst (λ (a : Answer). IsMove parts.layout state state (Run lp n) a None) answered (run_refused parts.layout state lp (outside_there state machine) n))
+        subst (λ (a : Answer). IsMove parts.layout state state (Run lp n) a None) answered (run_refused parts.layout state lp (outside_there state machine) n))
 
     pub outside_interrupt : Moves parts (Interrupt lp) (plainly Outside) parts
     outside_interrupt = stays parts (Interrupt lp) Outside refl (λ state machine.
-      subst (λ (a : Answer). IsMove parts.layout state state (Interrupt lp) a None) answered (interrupt_refused parts.layout state lp (outside_there state machine)))
+        subst (λ (a : Answer). IsMove parts.layout state state (Interrupt lp) a None) answered (interrupt_refused parts.layout state lp (outside_there state machine)))
 
   -- ---- A run
 

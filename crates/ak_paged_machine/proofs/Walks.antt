@@ -48,13 +48,14 @@ pub told : (parts : Parts) (entries : List Entry) (f t n : ℕ) (bytes : List �
     has_page (entry_at entries f) t ≡ true → bytes ≡ frame_at parts.encls.frames f → n ≡ saved_of bytes →
     (x : List ℕ) × HasBytes parts.encls (tcs_page parts.layout) x × (n ≡ saved_of x)
 told parts entries f t n bytes same is_tcs has read is = (
-    bytes,
-    record {
-      frame = f;
-      held = subst (λ (p : ℕ). has_page (entry_at parts.encls.entries f) p ≡ true) is_tcs (subst (λ (l : List Entry). has_page (entry_at l f) t ≡ true) same has);
-      bytes_are = read;
-    },
-    is)
+  bytes,
+  record {
+    frame = f;
+    held = subst (λ (p : ℕ). has_page (entry_at parts.encls.entries f) p ≡ true) is_tcs (subst (λ (l : List Entry). has_page (entry_at l f) t ≡ true) same has);
+    bytes_are = read;
+  },
+  is,
+)
 
 -- is the length of the stack, where the machine stands
 pub stack_told : (parts : Parts) (image : List ℕ) (past : History) (control : Control) (turns : List ProgramTurn) (state : State) → IsState parts state →

@@ -43,12 +43,7 @@ pub(crate) fn enter(
 }
 
 /// A processor resumes the newest saved context (SDM volume 3D, ERESUME).
-pub(crate) fn resume(
-    layout: &Layout,
-    memory: &mut Memory,
-    cpus: &mut Vec<Cpu>,
-    lp: Lp,
-) -> Answer
+pub(crate) fn resume(layout: &Layout, memory: &mut Memory, cpus: &mut Vec<Cpu>, lp: Lp) -> Answer
     requires sound { IsSound (parts_of layout.now memory.old cpus.old.items) }
     requires idle { memory.old.tlb ≡ [] }
     ensures moves { Moves (parts_of layout.now memory.old cpus.old.items) (Eresume lp) (plainly result) (parts_of layout.now memory.new cpus.new.items) }
@@ -70,12 +65,7 @@ pub(crate) fn resume(
 }
 
 /// A processor is interrupted (SDM volume 3D, "Asynchronous Enclave Exit").
-pub(crate) fn interrupt(
-    layout: &Layout,
-    memory: &mut Memory,
-    cpus: &mut Vec<Cpu>,
-    lp: Lp,
-) -> Answer
+pub(crate) fn interrupt(layout: &Layout, memory: &mut Memory, cpus: &mut Vec<Cpu>, lp: Lp) -> Answer
     requires sound { IsSound (parts_of layout.now memory.old cpus.old.items) }
     requires idle { memory.old.tlb ≡ [] }
     ensures moves { Moves (parts_of layout.now memory.old cpus.old.items) (Interrupt lp) (plainly result) (parts_of layout.now memory.new cpus.new.items) }

@@ -94,7 +94,7 @@ returns-clause-moves c =
     let same : c.index_mut.result.now ≡ c.index.result.now = same_Some c.index_mut.result.now c.index.result.now (sym at ∙ seen) in
     let within : c.index_mut.result.now.inside ≡ true = ap (λ (x : Cpu). x.inside) same ∙ c.if-not-index.false in
     let regs : c.index-2.result.now ≡ c.index_mut.result.now = same_Some c.index-2.result.now c.index_mut.result.now
-      (sym (slice_get_read c.args.cpus.now.items (length c.args.cpus.now.items) c.args.lp.0 c.index-2.result.now refl low c.index-2.ensures) ∙ at) in
+    (sym (slice_get_read c.args.cpus.now.items (length c.args.cpus.now.items) c.args.lp.0 c.index-2.result.now refl low c.index-2.ensures) ∙ at) in
     let words : AreRegs c.index-2.result.now.regs = record { sixteen = c.are_registers.ensures.sixteen; words = c.are_registers.ensures.words; rip = c.are_registers.ensures.rip } in
     interrupt_all parts c.requires.sound c.args.lp c.index_mut.result.now at within (subst (λ (x : Cpu). AreRegs x.regs) regs words) c.aex.new.leaves
     (subst (λ (e : Enclave). ExitsTo c.index_mut.result.now Why.Interrupt e c.aex.new.leaves) c.forget.ensures.encls c.aex.ensures.leaves)
