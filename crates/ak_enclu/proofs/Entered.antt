@@ -4,7 +4,6 @@ use Rattle.std.proofs.lemmas.Bool.{eqb-false, eqb-true}
 use Rattle.ak_core.specs.Layout.{Layout}
 use Rattle.ak_core.specs.declared.registers.Regs.{Regs}
 use Rattle.ak_model.specs.Paging.Holdings.{Mapping}
-use Rattle.ak_model.specs.Paging.Histories.{History}
 use Rattle.ak_model.specs.Paging.Pages.{all_pages, tcs_page, ssa_page, code_page}
 use Rattle.ak_pte.specs.declared.table.Pte.{Pte}
 use Rattle.ak_ssa.specs.SavedRegisters.{area_regs}
@@ -13,7 +12,7 @@ use Rattle.ak_relation.specs.Bytes.Pages.{IsTcs}
 use Rattle.ak_relation.specs.Premises.Entering.{EntersAt}
 use Rattle.ak_relation.specs.Premises.Resuming.{ResumesAt}
 use Rattle.ak_relation.specs.State.MachineState.{State, Processor}
-use Rattle.ak_relation.specs.State.Tables.{TablesStand}
+use Rattle.ak_relation.specs.State.Tables.{FramesStand}
 use Rattle.ak_encls.specs.Enclave.{Enclave, blank_page, frame_at}
 use Rattle.ak_enclu.specs.EnterAnswers.{held_at}
 use Rattle.ak_pte.specs.Table.{pte_at}
@@ -29,8 +28,8 @@ use Rattle.ak_enclu.proofs.Fields.{flagged_by, flagged_size, counted, counted_si
 framed : (frames : List (List ℕ)) (f g : ℕ) (bytes : List ℕ) → (g == f) ≡ false → frame_at (set frames f bytes) g ≡ frame_at frames g
 framed frames f g bytes other = get_or-set_other frames f g bytes blank_page (λ same. eqb-false g f other same)
 
-module _ (layout : Layout) (past : History) (state : State) (cpu : Cpu) (table : List Pte) (encls new : Enclave)
-    (h : TablesStand layout past state) (m : IsMachine layout cpu table encls state) (regs : Regs) (k : ℕ) (bytes : List ℕ) (few : k ≤ 2)
+module _ (layout : Layout) (state : State) (cpu : Cpu) (table : List Pte) (encls new : Enclave)
+    (h : FramesStand state.frames) (m : IsMachine layout cpu table encls state) (regs : Regs) (k : ℕ) (bytes : List ℕ) (few : k ≤ 2)
     (whole : length bytes ≡ 4096) (to : EntersTo cpu.lp.0 (pte_at table (tcs_page layout)).frame.0 bytes encls new) where
   abbrev f : ℕ
   f = (pte_at table (tcs_page layout)).frame.0
@@ -80,20 +79,20 @@ module _ (layout : Layout) (past : History) (state : State) (cpu : Cpu) (table :
   by_frame : (g : ℕ) (b : Bool) → (g == f) ≡ b → length (frame_at frames g) ≡ 4096
   by_frame g true e =
       ap (λ i. length (frame_at frames i)) (eqb-true g f e) ∙ ap length (get_or-set_same encls.frames f bytes blank_page to.within) ∙ whole
-  by_frame g false e = ap length (framed encls.frames f g bytes e ∙ sym (m.paging.frames g)) ∙ h.frames.whole g
+  by_frame g false e = ap length (framed encls.frames f g bytes e ∙ sym (m.paging.frames g)) ∙ h.whole g
 
   pub all_whole : (g : ℕ) → length (end.frames g) ≡ 4096
   all_whole g = by_frame g (g == f) refl
 
 -- ---- EENTER
 
-module _ (layout : Layout) (past : History) (state : State) (cpu : Cpu) (table : List Pte) (encls new : Enclave)
-    (h : TablesStand layout past state) (m : IsMachine layout cpu table encls state) where
+module _ (layout : Layout) (state : State) (cpu : Cpu) (table : List Pte) (encls new : Enclave)
+    (h : FramesStand state.frames) (m : IsMachine layout cpu table encls state) where
   abbrev old_tcs : List ℕ
   old_tcs = tcs_at encls table (tcs_page layout)
 
   old_whole : length old_tcs ≡ 4096
-  old_whole = ap length (sym (m.paging.frames (pte_at table (tcs_page layout)).frame.0)) ∙ h.frames.whole (pte_at table (tcs_page layout)).frame.0
+  old_whole = ap length (sym (m.paging.frames (pte_at table (tcs_page layout)).frame.0)) ∙ h.whole (pte_at table (tcs_page layout)).frame.0
 
   pub entered : (v : ℕ) → saved_of old_tcs ≤ 2 → EntersTo cpu.lp.0 (pte_at table (tcs_page layout)).frame.0 (with_pending false old_tcs) encls new
       → LeadsToWhere layout (inside_with cpu (entry_regs_at (layout.base + 4096 * code_page layout) (saved_of old_tcs) v) (held_at table (tcs_page layout) (saved_of old_tcs)))
@@ -103,21 +102,21 @@ module _ (layout : Layout) (past : History) (state : State) (cpu : Cpu) (table :
       let regs = entry_regs_at (layout.base + 4096 * code_page layout) k v in
       let bytes = with_pending false old_tcs in
       let whole = flagged_size false old_tcs old_whole in
-      let at = there layout past state cpu table encls new h m regs k bytes few whole to in
+      let at = there layout state cpu table encls new h m regs k bytes few whole to in
       let address : layout.base + 4096 * code_page layout ≡ layout.base + 4096 * code_page layout + 0 = omega arith in
       record {
-        state = end layout past state cpu table encls new h m regs k bytes few whole to;
-        machine = machine layout past state cpu table encls new h m regs k bytes few whole to;
+        state = end layout state cpu table encls new h m regs k bytes few whole to;
+        machine = machine layout state cpu table encls new h m regs k bytes few whole to;
         does = record {
           inside = ap (λ (p : Processor). p.inside) at;
           regs = ap (λ (p : Processor). p.regs) at ∙ ap (λ a. entry_regs_at a k v) address;
-          tcs = ap (λ (p : Processor). p.tcs) at ∙ tcs_named layout past state cpu table encls new h m regs k bytes few whole to;
-          ssa = ap (λ (p : Processor). p.ssa) at ∙ ssa_named layout past state cpu table encls new h m regs k bytes few whole to;
+          tcs = ap (λ (p : Processor). p.tcs) at ∙ tcs_named layout state cpu table encls new h m regs k bytes few whole to;
+          ssa = ap (λ (p : Processor). p.ssa) at ∙ ssa_named layout state cpu table encls new h m regs k bytes few whole to;
           flushed = ap (λ (p : Processor). p.fills) at;
           others = λ q other. processor_other state cpu.lp.0 q _ other;
-          cleared = subst (IsTcs k false) (tcs_bytes_are layout past state cpu table encls new h m regs k bytes few whole to) (flagged_by k false old_tcs old_whole refl);
-          frames = others_stay layout past state cpu table encls new h m regs k bytes few whole to;
-          whole = all_whole layout past state cpu table encls new h m regs k bytes few whole to;
+          cleared = subst (IsTcs k false) (tcs_bytes_are layout state cpu table encls new h m regs k bytes few whole to) (flagged_by k false old_tcs old_whole refl);
+          frames = others_stay layout state cpu table encls new h m regs k bytes few whole to;
+          whole = all_whole layout state cpu table encls new h m regs k bytes few whole to;
           track = refl;
           entries = refl;
           count = refl;
@@ -143,22 +142,22 @@ module _ (layout : Layout) (past : History) (state : State) (cpu : Cpu) (table :
       let regs = area_regs (frame_at encls.frames area) in
       let bytes = with_saved k old_tcs in
       let whole = counted_size k old_tcs old_whole in
-      let at = there layout past state cpu table encls new h m regs k bytes le whole to in
-      let ssa_is = ssa_named layout past state cpu table encls new h m regs k bytes le whole to in
+      let at = there layout state cpu table encls new h m regs k bytes le whole to in
+      let ssa_is = ssa_named layout state cpu table encls new h m regs k bytes le whole to in
       record {
-        state = end layout past state cpu table encls new h m regs k bytes le whole to;
-        machine = machine layout past state cpu table encls new h m regs k bytes le whole to;
+        state = end layout state cpu table encls new h m regs k bytes le whole to;
+        machine = machine layout state cpu table encls new h m regs k bytes le whole to;
         does = record {
           inside = ap (λ (p : Processor). p.inside) at;
           regs = ap (λ (p : Processor). p.regs) at ∙ ap area_regs (sym (m.paging.frames area) ∙ ap state.frames ssa_is);
-          tcs = ap (λ (p : Processor). p.tcs) at ∙ tcs_named layout past state cpu table encls new h m regs k bytes le whole to;
+          tcs = ap (λ (p : Processor). p.tcs) at ∙ tcs_named layout state cpu table encls new h m regs k bytes le whole to;
           ssa = ap (λ (p : Processor). p.ssa) at ∙ ssa_is;
           flushed = ap (λ (p : Processor). p.fills) at;
           others = λ q other. processor_other state cpu.lp.0 q _ other;
-          counted = subst (IsTcs k false) (tcs_bytes_are layout past state cpu table encls new h m regs k bytes le whole to)
+          counted = subst (IsTcs k false) (tcs_bytes_are layout state cpu table encls new h m regs k bytes le whole to)
               (counted (saved_of old_tcs) k false old_tcs old_whole (omega (arith, le)) says);
-          frames = others_stay layout past state cpu table encls new h m regs k bytes le whole to;
-          whole = all_whole layout past state cpu table encls new h m regs k bytes le whole to;
+          frames = others_stay layout state cpu table encls new h m regs k bytes le whole to;
+          whole = all_whole layout state cpu table encls new h m regs k bytes le whole to;
           track = refl;
           entries = refl;
           count = refl;

@@ -1,5 +1,7 @@
 pub mod Fields
 mod Rows
+mod Fields
+pub mod Rows
 pub mod Changes
-mod Entered
+pub mod Entered
 pub mod Left

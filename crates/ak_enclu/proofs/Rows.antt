@@ -95,25 +95,31 @@ module _ (layout : Layout) (past : History) (state : State) (cpu : Cpu) (table :
   abbrev busy : Bool
   busy = list_any (λ q. (state.processors q).inside && not (q == cpu.lp.0)) (processors layout)
 
-  outside : (x y : Answer) → cpu.lp.0 < layout.lps → x ≡ y
+  -- the same answer, where it is asked for
+  chosen : (x y : Answer) (inside found busy : Bool) → (found ≡ true → x ≡ y) → unless_outside inside found busy x ≡ unless_outside inside found busy y
+  chosen x y true found busy same = refl
+  chosen x y false false busy same = refl
+  chosen x y false true busy same = ap (λ a. unless_outside false true busy a) (same refl)
+
+  outside : (x y : Answer) → cpu.lp.0 < layout.lps → (finds_tcs encls.entries table (tcs_page layout) ≡ true → x ≡ y)
       → unless_outside cpu.inside (finds_tcs encls.entries table (tcs_page layout)) busy x
       ≡ (if not (nat_lt cpu.lp.0 layout.lps) then NoLp else unless_outside (state.processors cpu.lp.0).inside (tcs_in layout state) busy y)
   outside x y low same =
       ap (λ b. unless_outside b (finds_tcs encls.entries table (tcs_page layout)) busy x) (sym m.processor.inside)
       ∙ ap (λ b. unless_outside (state.processors cpu.lp.0).inside b busy x) tcs_found
-      ∙ ap (λ a. unless_outside (state.processors cpu.lp.0).inside (tcs_in layout state) busy a) same
+      ∙ chosen x y (state.processors cpu.lp.0).inside (tcs_in layout state) busy (λ found. same (tcs_found ∙ found))
       ∙ ap (λ b. if not b then NoLp else unless_outside (state.processors cpu.lp.0).inside (tcs_in layout state) busy y) (sym (lt-ltb cpu.lp.0 layout.lps low))
 
   abbrev bytes : List ℕ
   bytes = tcs_at encls table (tcs_page layout)
 
-  pub enters_by_row : cpu.lp.0 < layout.lps → saved_of bytes ≤ 3
+  pub enters_by_row : cpu.lp.0 < layout.lps → (finds_tcs encls.entries table (tcs_page layout) ≡ true → saved_of bytes ≤ 3)
       → enter_answer encls.entries table (tcs_page layout) bytes cpu.inside busy ≡ enter_row layout state cpu.lp.0
   enters_by_row low few =
-      outside _ _ low (to_enter (saved_of bytes) few ∙ ap (λ l. if saved_of l == 3 then Gp else walked_row (saved_of l)) bytes_same)
+      outside _ _ low (λ found. to_enter (saved_of bytes) (few found) ∙ ap (λ l. if saved_of l == 3 then Gp else walked_row (saved_of l)) bytes_same)
 
-  pub resumes_by_row : cpu.lp.0 < layout.lps → saved_of bytes ≤ 3
+  pub resumes_by_row : cpu.lp.0 < layout.lps → (finds_tcs encls.entries table (tcs_page layout) ≡ true → saved_of bytes ≤ 3)
       → resume_answer encls.entries table (tcs_page layout) bytes cpu.inside busy ≡ resume_row layout state cpu.lp.0
   resumes_by_row low few =
-      outside _ _ low (to_resume (pending_of bytes) (saved_of bytes) few
+      outside _ _ low (λ found. to_resume (pending_of bytes) (saved_of bytes) (few found)
       ∙ ap (λ l. if saved_of l == 0 then Gp else (if pending_of l then Pending else walked_row (saved_of l - 1))) bytes_same)

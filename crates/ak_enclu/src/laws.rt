@@ -21,7 +21,7 @@ ghost use Rattle.ak_relation.specs.Premises.Works.{Quits};
 ghost use Rattle.ak_relation.specs.State.MachineState.{State};
 ghost use Rattle.ak_relation.specs.State.Tables.{FramesStand, TablesStand};
 ghost use Rattle.ak_encls.specs.Enclave.{Enclave, frame_at};
-ghost use Rattle.ak_enclu.specs.EnterAnswers.{enter_answer, resume_answer, held_at};
+ghost use Rattle.ak_enclu.specs.EnterAnswers.{enter_answer, finds_tcs, resume_answer, held_at};
 ghost use Rattle.ak_pte.specs.Table.{pte_at};
 ghost use Rattle.ak_enclu.specs.Machines.{IsMachine, LeadsToWhere};
 ghost use Rattle.ak_enclu.specs.Passing.{tcs_at, inside_with, outside_now, EntersTo, ExitsTo, Steps};
@@ -39,30 +39,33 @@ pub fn fields_return()
         → IsTcs (saved + 1) (refuses why || pending) (after_exit why bytes) }
 {}
 
-/// Where the tables stand, the answers are the rows over the machine's own tables.
+/// Where the tables stand, and the TCS that is found has three saved contexts at most, the answers are the rows over the machine's own
+/// tables.
 pub fn answers_are_rows()
     ensures enter { (layout : Layout) (past : History) (state : State) (cpu : TheCpu) (table : List Pte) (encls : Enclave) → TablesStand layout past state
-        → IsMachine layout cpu table encls state → cpu.lp.0 < layout.lps → saved_of (tcs_at encls table (tcs_page layout)) ≤ 3
+        → IsMachine layout cpu table encls state → cpu.lp.0 < layout.lps
+        → (finds_tcs encls.entries table (tcs_page layout) ≡ true → saved_of (tcs_at encls table (tcs_page layout)) ≤ 3)
         → enter_answer encls.entries table (tcs_page layout) (tcs_at encls table (tcs_page layout)) cpu.inside
         (list_any (λ q. (state.processors q).inside && not (q == cpu.lp.0)) (processors layout))
         ≡ enter_row layout state cpu.lp.0 }
     ensures resume { (layout : Layout) (past : History) (state : State) (cpu : TheCpu) (table : List Pte) (encls : Enclave) → TablesStand layout past state
-        → IsMachine layout cpu table encls state → cpu.lp.0 < layout.lps → saved_of (tcs_at encls table (tcs_page layout)) ≤ 3
+        → IsMachine layout cpu table encls state → cpu.lp.0 < layout.lps
+        → (finds_tcs encls.entries table (tcs_page layout) ≡ true → saved_of (tcs_at encls table (tcs_page layout)) ≤ 3)
         → resume_answer encls.entries table (tcs_page layout) (tcs_at encls table (tcs_page layout)) cpu.inside
         (list_any (λ q. (state.processors q).inside && not (q == cpu.lp.0)) (processors layout))
         ≡ resume_row layout state cpu.lp.0 }
 {}
 
-/// What an entering or a resuming leaves is what it does to the machine, where the tables stand and there is an area.
+/// What an entering or a resuming leaves is what it does to the machine, where each frame has 4096 bytes and there is an area.
 pub fn entering_changes()
-    ensures enter { (layout : Layout) (past : History) (state : State) (cpu : TheCpu) (table : List Pte) (encls new : Enclave) (v : ℕ) → TablesStand layout past state
+    ensures enter { (layout : Layout) (state : State) (cpu : TheCpu) (table : List Pte) (encls new : Enclave) (v : ℕ) → FramesStand state.frames
         → IsMachine layout cpu table encls state → saved_of (tcs_at encls table (tcs_page layout)) ≤ 2
         → EntersTo cpu.lp.0 (pte_at table (tcs_page layout)).frame.0 (with_pending false (tcs_at encls table (tcs_page layout))) encls new
         → LeadsToWhere layout
         (inside_with cpu (entry_regs_at (layout.base + 4096 * code_page layout) (saved_of (tcs_at encls table (tcs_page layout))) v)
         (held_at table (tcs_page layout) (saved_of (tcs_at encls table (tcs_page layout)))))
         table new (EntersAt layout cpu.lp.0 (saved_of (tcs_at encls table (tcs_page layout))) v state) }
-    ensures resume { (layout : Layout) (past : History) (state : State) (cpu : TheCpu) (table : List Pte) (encls new : Enclave) → TablesStand layout past state
+    ensures resume { (layout : Layout) (state : State) (cpu : TheCpu) (table : List Pte) (encls new : Enclave) → FramesStand state.frames
         → IsMachine layout cpu table encls state → IsTcs (saved_of (tcs_at encls table (tcs_page layout))) false (tcs_at encls table (tcs_page layout))
         → saved_of (tcs_at encls table (tcs_page layout)) ≤ 3 → 0 < saved_of (tcs_at encls table (tcs_page layout))
         → EntersTo cpu.lp.0 (pte_at table (tcs_page layout)).frame.0

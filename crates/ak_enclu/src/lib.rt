@@ -12,3 +12,4 @@ mod tcs;
 pub use cpu::Cpu;
 pub use entering::{eenter, eresume};
 pub use leaving::{aex, eexit};
+pub use tcs::saved;

@@ -12,8 +12,8 @@ const CSSA: usize = 24;
 /// Where the flag stands that refuses resuming (this project's own place).
 const PENDING: usize = 72;
 
-/// How many contexts are saved.
-pub(crate) fn saved(tcs: &[u8; PAGE_SIZE]) -> u32
+/// How many contexts are saved, by the bytes of a TCS (SDM volume 3D, "Thread Control Structure", CSSA).
+pub fn saved(tcs: &[u8; PAGE_SIZE]) -> u32
     ensures { result ≡ saved_of tcs.now }
 {
     LittleEndian::read_u32(&tcs[CSSA..])

@@ -1,0 +1,11 @@
+mod Sound
+mod Plain
+mod Entries
+mod Leaves
+mod Processors
+mod Runs
+mod Held
+mod Interrupts
+mod Enterings
+mod Builds
+mod Walks
