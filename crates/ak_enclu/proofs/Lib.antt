@@ -1,6 +1,4 @@
 pub mod Fields
-mod Rows
-mod Fields
 pub mod Rows
 pub mod Changes
 pub mod Entered

@@ -40,8 +40,6 @@ use Rattle.ak_walk.specs.Agrees.{EntryAgrees}
 use Rattle.ak_encls.specs.Enclave.{Enclave, frame_at}
 use Rattle.ak_walk.specs.Mappings.{mapping_of}
 use Rattle.ak_enclu.specs.Machines.{IsMachine}
-use Rattle.ak_enclu.specs.Machines.{IsMachine}
-use Rattle.ak_walk.specs.Mappings.{mapping_of}
 use Rattle.ak_enclu.specs.declared.cpu.Cpu.{Cpu}
 use Rattle.ak_memory.specs.Granting.{is_walked, NamesPages}
 

@@ -29,8 +29,6 @@ use Rattle.ak_relation.specs.State.Tables.{TablesStand}
 use Rattle.ak_encls.specs.Enclave.{Enclave}
 use Rattle.ak_walk.specs.Mappings.{mapping_of}
 use Rattle.ak_enclu.specs.Machines.{IsMachine}
-use Rattle.ak_enclu.specs.Machines.{IsMachine}
-use Rattle.ak_walk.specs.Mappings.{mapping_of}
 use Rattle.ak_enclu.specs.declared.cpu.Cpu.{Cpu}
 use Rattle.ak_memory.specs.Granting.{is_walked, is_granted, is_seen}
 
