@@ -21,11 +21,20 @@ fn processors(alloc: Global, lps: u8) -> Result<Vec<Cpu>, OutOfMemory>
 {
     let mut cpus = Vec::new(alloc);
     for lp in 0..lps {
-        let Ok(()) = cpus.push(Cpu::outside(Lp(lp))) else {
+        let Ok(()) = cpus.push(outside(Lp(lp))) else {
             return Err(OutOfMemory);
         };
     }
     Ok(cpus)
+}
+
+/// A processor that is outside, with nothing cached.
+fn outside(lp: Lp) -> Cpu
+    ensures lp { result.lp ≡ lp }
+    ensures outside { result.inside ≡ false }
+    ensures empty { result.tlb ≡ [] }
+{
+    Cpu::outside(lp)
 }
 
 impl Machine {
