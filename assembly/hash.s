@@ -1,6 +1,9 @@
-# Hashes a secret text by FNV-1a and puts the hash out. It makes the same accesses whatever the text is: a kernel learns its hash alone.
-# tools/image links it. All numbers are 64 bits (movabs), all displacements 32 ({disp32}), and moves of bytes have {rex}.
+# Hashes the eight bytes of SECRET by FNV-1a and puts the hash out. It makes the same accesses whatever they are: a kernel learns the hash
+# alone. tools/image links it, by --define SECRET=N with another secret. All numbers are 64 bits (movabs), all displacements 32 ({disp32}), and moves of bytes have {rex}.
         .intel_syntax noprefix
+        .ifndef SECRET
+        .set    SECRET, 0x216e776164207461      # at dawn!
+        .endif
         .globl  _start
 _start: movabs  rbx, offset secret
         movabs  r9, offset end
@@ -23,5 +26,5 @@ next:   movabs  rcx, 0
         enclu
 
         .section .rodata
-secret: .ascii  "attack at dawn"
+secret: .quad   SECRET
 end:

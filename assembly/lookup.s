@@ -1,6 +1,9 @@
-# Looks a secret, 0 or 1, up in a table with a page for each: which page it loads from tells the secret.
-# tools/image links it. All numbers are 64 bits (movabs), all displacements 32 ({disp32}).
+# Looks SECRET, 0 or 1, up in a table with a page for each: which page it loads from tells the secret.
+# tools/image links it, by --define SECRET=0 with another secret. All numbers are 64 bits (movabs), all displacements 32 ({disp32}).
         .intel_syntax noprefix
+        .ifndef SECRET
+        .set    SECRET, 1
+        .endif
         .globl  _start
 _start: movabs  rbx, offset secret
         {disp32} mov rcx, [rbx]
@@ -19,4 +22,4 @@ table:  .quad   11
         .quad   22
 
         .data
-secret: .quad   1
+secret: .quad   SECRET

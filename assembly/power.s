@@ -1,8 +1,11 @@
-# Raises 3 to a secret power modulo 1,000,003, by squaring, and by multiplying for each bit that is 1: the code that multiplies
-# has a page of its own, and when it is fetched tells the bits. The power is put out.
-# tools/image links it. All numbers are 64 bits (movabs), all displacements 32 ({disp32}); bytes and short jumps do not occur.
+# Raises 3 to the power SECRET, of 16 bits, modulo 1,000,003, by squaring, and by multiplying for each bit that is 1: the code that
+# multiplies has a page of its own, and when it is fetched tells the bits. The power is put out.
+# tools/image links it, by --define SECRET=N with another secret. All numbers are 64 bits (movabs), all displacements 32 ({disp32}).
         .intel_syntax noprefix
         .set    MODULUS, 1000003
+        .ifndef SECRET
+        .set    SECRET, 0xb00d
+        .endif
         .globl  _start
 _start: movabs  rsp, offset stack
         movabs  rbx, offset secret
@@ -44,7 +47,7 @@ multiply:
         ret
 
         .data
-secret: .quad   0xb00d
+secret: .quad   SECRET
 
         .bss
         .space  4096

@@ -1,12 +1,16 @@
-//! A plain interpreter of the loop of `loop.toml` over the same tables: for each access it walks a page table and looks into
-//! the entry of the frame. It is not verified, and stands beside the proved program as a yardstick of speed alone.
+//! A plain interpreter of the loop of `loop.toml` over the same tables: an access takes a cached translation, or walks a page table,
+//! looks into the entry of the frame and is cached. With a second number it saves its registers into a frame after so many turns, and
+//! loads them again, and its translations are gone. It is not verified, and stands beside the proved program as a yardstick of speed
+//! alone.
+//!
+//! usage: twin TURNS [EVERY]
 use std::env;
 use std::process::ExitCode;
 
 const PAGE: u64 = 4096;
 const BASE: u64 = 0x1000_0000;
 
-#[derive(Clone, Copy)]
+#[derive(Clone, Copy, PartialEq, Eq)]
 enum Kind {
     Read,
     Write,
@@ -32,7 +36,14 @@ struct Entry {
     executable: bool,
 }
 
+/// A translation that was walked: the page, the kind of access, and the frame.
+type Translation = Option<(usize, Kind, usize)>;
+
+const TRANSLATIONS: usize = 64;
+
 struct Machine {
+    cached: [Translation; TRANSLATIONS],
+    saved: usize,
     table: Vec<Pte>,
     entries: Vec<Entry>,
     frames: Vec<Vec<u8>>,
@@ -43,6 +54,8 @@ struct Machine {
 impl Machine {
     fn new(code: &[u8], pages: usize) -> Machine {
         let mut machine = Machine {
+            cached: [None; TRANSLATIONS],
+            saved: 3,
             table: Vec::new(),
             entries: vec![Entry { valid: false, page: 0, blocked: false, writable: false, executable: false }; 8],
             frames: vec![vec![0; PAGE as usize]; 8],
@@ -81,18 +94,49 @@ impl Machine {
         found.then_some(pte.frame)
     }
 
-    fn operand(&self, address: u64, count: u64, kind: Kind) -> Option<(usize, usize)> {
+    fn touch(&mut self, page: usize, kind: Kind) -> Option<usize> {
+        let place = (3 * page + kind as usize) % TRANSLATIONS;
+        if let Some((held, how, frame)) = self.cached[place] {
+            if held == page && how == kind {
+                return Some(frame);
+            }
+        }
+        let frame = self.walk(page, kind)?;
+        self.cached[place] = Some((page, kind, frame));
+        Some(frame)
+    }
+
+    fn save(&mut self) {
+        let frame = &mut self.frames[self.saved][3896..];
+        frame.fill(0);
+        for (place, register) in frame[16..144].chunks_mut(8).zip(self.registers) {
+            place.copy_from_slice(&register.to_le_bytes());
+        }
+        frame[152..160].copy_from_slice(&self.rip.to_le_bytes());
+        self.cached = [None; TRANSLATIONS];
+    }
+
+    fn load_saved(&mut self) -> Option<()> {
+        let frame = &self.frames[self.saved][3896..];
+        for (register, place) in self.registers.iter_mut().zip(frame[16..144].chunks(8)) {
+            *register = u64::from_le_bytes(place.try_into().ok()?);
+        }
+        self.rip = u64::from_le_bytes(frame[152..160].try_into().ok()?);
+        Some(())
+    }
+
+    fn operand(&mut self, address: u64, count: u64, kind: Kind) -> Option<(usize, usize)> {
         let size = PAGE * self.table.len() as u64;
         let place = address.checked_sub(BASE)?;
         if place > size || size - place < count {
             return None;
         }
-        let first = self.walk((place / PAGE) as usize, kind)?;
-        let last = self.walk(((place + count - 1) / PAGE) as usize, kind)?;
+        let first = self.touch((place / PAGE) as usize, kind)?;
+        let last = self.touch(((place + count - 1) / PAGE) as usize, kind)?;
         Some((first, last))
     }
 
-    fn load(&self, address: u64) -> Option<u64> {
+    fn load(&mut self, address: u64) -> Option<u64> {
         let (first, last) = self.operand(address, 8, Kind::Read)?;
         let offset = ((address - BASE) % PAGE) as usize;
         let mut bytes = [0; 8];
@@ -119,7 +163,7 @@ impl Machine {
 
     fn step(&mut self) -> Option<()> {
         let place = self.rip.checked_sub(BASE)?;
-        let frame = self.walk((place / PAGE) as usize, Kind::Exec)?;
+        let frame = self.touch((place / PAGE) as usize, Kind::Exec)?;
         let bytes = &self.frames[frame][(place % PAGE) as usize..];
         let rex = bytes[0];
         let (r, b) = ((rex >> 2 & 1) << 3, (rex & 1) << 3);
@@ -157,7 +201,8 @@ impl Machine {
 }
 
 fn main() -> ExitCode {
-    let turns = env::args().nth(1).and_then(|word| word.parse::<u64>().ok()).unwrap_or(20_000_000);
+    let number = |place, default| env::args().nth(place).and_then(|word| word.parse::<u64>().ok()).unwrap_or(default);
+    let (turns, every) = (number(1, 20_000_000), number(2, u64::MAX));
     // mov rbx, BASE + 4096; mov rax, 1; then: mov [rbx], rax; mov rcx, [rbx]; add rdx, rcx; jmp back
     let mut code = vec![0x48, 0xbb];
     code.extend((BASE + PAGE).to_le_bytes());
@@ -169,9 +214,15 @@ fn main() -> ExitCode {
     code.push(0xe9);
     code.extend((-22i32).to_le_bytes());
     let mut machine = Machine::new(&code, 2);
-    for _ in 0..turns {
+    for turn in 1..=turns {
         if machine.step().is_none() {
             return ExitCode::FAILURE;
+        }
+        if turn % every == 0 {
+            machine.save();
+            if machine.load_saved().is_none() {
+                return ExitCode::FAILURE;
+            }
         }
     }
     println!("{}", machine.registers[2]);

@@ -1,12 +1,12 @@
 """Linked programs for x86-64, as far as an image is made of them: their sections, symbols and entry (ELF-64 Object File Format)."""
 import struct
 from dataclasses import dataclass
-from typing import Dict, List, NoReturn
+from typing import Dict, List, NamedTuple, NoReturn
 
 EXECUTABLE, X86_64 = 2, 62
 SYMBOLS, RELOCATIONS, NO_BYTES = 2, (4, 9), 8
 WRITABLE, ALLOCATED, EXECUTED = 1, 2, 4
-UNDEFINED = 0
+UNDEFINED, NUMBERS = 0, 0xFF00
 
 
 class ElfFault(Exception):
@@ -29,12 +29,20 @@ class Section:
         return "rw" if self.flags & WRITABLE else "rx" if self.flags & EXECUTED else "r"
 
 
+class Symbol(NamedTuple):
+    """A name of an address, and how many bytes it names; 0 where that is not told."""
+
+    name: str
+    address: int
+    size: int
+
+
 @dataclass
 class Program:
     """A linked program."""
 
     sections: List[Section]
-    symbols: Dict[str, int]
+    symbols: Dict[str, Symbol]
 
 
 def fail(why: str) -> NoReturn:
@@ -45,12 +53,13 @@ def name_at(names: bytes, place: int) -> str:
     return names[place : names.index(b"\0", place)].decode("utf-8", "replace")
 
 
-def read_symbols(data: bytes, names: bytes) -> Dict[str, int]:
+def read_symbols(data: bytes, names: bytes) -> Dict[str, Symbol]:
+    """The symbols of sections; others are numbers, and names of files."""
     symbols = {}
-    for name, _, _, section, value, _ in struct.iter_unpack("<IBBHQQ", data):
-        if name and section != UNDEFINED:
-            symbols[name_at(names, name)] = value
-        elif name:
+    for name, _, _, section, value, size in struct.iter_unpack("<IBBHQQ", data):
+        if name and UNDEFINED < section < NUMBERS:
+            symbols[name_at(names, name)] = Symbol(name_at(names, name), value, size)
+        elif name and section == UNDEFINED:
             fail(f"the symbol `{name_at(names, name)}` is not defined")
     return symbols
 

@@ -1,8 +1,8 @@
-"""Reports: the moves of the kernel with their answers, the outputs and the events. Forms are those of the report's definition,
-`report_of` in crates/ak_top/specs/Report.antt, which also has moves and answers that the machine does not serve yet."""
+"""Reports: the moves of the kernel with their answers, the outputs, the events and the stop. Forms are those of the report's
+definition, `report_of` in crates/ak_top/specs/Report.antt."""
 import re
 from dataclasses import dataclass
-from typing import List, NamedTuple, NoReturn, Tuple
+from typing import List, NamedTuple, NoReturn, Optional, Tuple
 
 FIRST_LINE = "autarky 1"
 NUMBER, FLAGS = "0|[1-9][0-9]*", "-|(?=.)p?w?x?a?d?"
@@ -20,6 +20,8 @@ REFUSALS = (
     " enclaveactive nohandle nolp inside outside tcsfault busy gp pending ssafault"
 ).split()
 ANSWERS = {"ok": (), "handle": (NUMBER,), "pte": (NUMBER, FLAGS), **EXITS, **{word: () for word in REFUSALS}}
+KIND = "read|write|exec"
+CAUSES = {"unmapped": (NUMBER, KIND), "runtime": (NUMBER, KIND), "fetch": (NUMBER, KIND), "resumed": (), "stuck": (NUMBER, KIND)}
 EVENTS = {"call": 3 * (NUMBER,), "miss": 2 * (NUMBER,), "trap": 2 * (NUMBER,), "break": (NUMBER,)}
 
 
@@ -48,6 +50,13 @@ class Event(NamedTuple):
         return " ".join(map(str, ("event", self.kind, self.count, *self.rest)))
 
 
+class Stop(NamedTuple):
+    """Why the enclave stopped, in words, and the number of the move that is to blame."""
+
+    cause: Tuple[str, ...]
+    blamed: int
+
+
 @dataclass
 class Report:
     """A report. `outputs` are values with their lines."""
@@ -56,6 +65,7 @@ class Report:
     moves: List[Move]
     outputs: List[Tuple[int, int]]
     events: List[Event]
+    stop: Optional[Stop]
 
 
 def fault(line: int, what: str) -> NoReturn:
@@ -90,14 +100,26 @@ def read_event(line: int, text: str) -> Event:
     return Event(words[0], count, tuple(rest), line)
 
 
+def read_stop(line: int, text: str, moves: int) -> Optional[Stop]:
+    """The stop of the last line, where there is one. It blames one of so many moves."""
+    if text == "stop none":
+        return None
+    first, *rest = text.split(" ")
+    if first != "stop" or rest[-2:-1] != ["blame"] or not is_spelled(rest[:-2], CAUSES):
+        fault(line, f"no stop: {text}")
+    if not re.fullmatch(NUMBER, rest[-1]) or not 1 <= int(rest[-1]) <= moves:
+        fault(line, f"no move to blame: {text}")
+    return Stop(tuple(rest[:-2]), int(rest[-1]))
+
+
 def read_report(text: str) -> Report:
     """The report that the text is; a ReportFault tells why it is none."""
     if not text.startswith(FIRST_LINE + "\n"):
         fault(1, f"a report begins with the line `{FIRST_LINE}`")
     if not text.endswith("\n"):
         fault(text.count("\n") + 1, "the last line does not end")
-    report = Report(text.split("\n")[:-1], [], [], [])
-    for line, words in enumerate(report.lines[1:], 2):
+    report = Report(text.split("\n")[:-1], [], [], [], None)
+    for line, words in enumerate(report.lines[1:-1], 2):
         if words.startswith("event "):
             report.events.append(read_event(line, words))
         elif words.startswith("output ") and not report.events:
@@ -108,6 +130,7 @@ def read_report(text: str) -> Report:
             fault(line, "no output or event, or one that comes too late")
         else:
             report.moves.append(read_move(len(report.moves) + 1, line, words))
+    report.stop = read_stop(len(report.lines), report.lines[-1], len(report.moves))
     return report
 
 

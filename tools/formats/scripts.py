@@ -1,6 +1,7 @@
 """Scripts: their lines, and why one is refused."""
 import re
-from typing import Dict, List, NamedTuple, NoReturn, Optional
+from dataclasses import dataclass, field
+from typing import List, NamedTuple, NoReturn, Optional, Tuple
 
 from formats.refusals import Refusal, counted
 
@@ -9,19 +10,45 @@ MOST_TURNS_OF_RUN = 1_000_000
 MOST_TURNS = 20_000_000
 FLAGS = "pwxad"
 NUMBERS = {"notascii": 1, "unknown": 2, "words": 3, "number": 4, "range": 5, "toomany": 6, "flags": 7}
-MOVES = {
+TURNS_OF_AUTO = 1000
+LINES = {
     "setpte": ("PAGE", "FRAME", "FLAGS"),
     "readpte": ("PAGE",),
+    "eblock": ("FRAME",),
+    "etrack": (),
+    "ewb": ("FRAME", "VA", "SLOT"),
+    "eldu": ("FRAME", "HANDLE", "PAGE", "VA", "SLOT"),
+    "eldb": ("FRAME", "HANDLE", "PAGE", "VA", "SLOT"),
+    "eremove": ("FRAME",),
+    "epa": ("FRAME",),
+    "drop": ("HANDLE",),
     "eenter": ("LP", "VALUE"),
+    "eresume": ("LP",),
     "run": ("LP", "N"),
+    "interrupt": ("LP",),
+    "auto": ("N",),
+    "input": ("VALUE",),
 }
 RANGES = {
     "PAGE": (0, 2**32 - 1),
     "FRAME": (0, 2**32 - 1),
+    "VA": (0, 2**32 - 1),
+    "HANDLE": (0, 2**32 - 1),
+    "SLOT": (0, 511),
     "LP": (0, 3),
     "VALUE": (0, 2**64 - 1),
-    "N": (1, MOST_TURNS_OF_RUN),
 }
+MOST_N = {"run": MOST_TURNS_OF_RUN, "auto": MOST_MOVES}
+
+
+@dataclass
+class Script:
+    """The lines of a script but its inputs, each with its operands; the inputs; and how many moves and turns it may make."""
+
+    items: List[Tuple["int | str", ...]] = field(default_factory=list)
+    inputs: List[int] = field(default_factory=list)
+    moves: int = 0
+    turns: int = 0
 
 
 class Word(NamedTuple):
@@ -51,9 +78,9 @@ class Line:
     def operands(self) -> "tuple[str, ...]":
         """The operands that the first word wants, as many as there are."""
         first = self.words[0]
-        if first.text not in MOVES:
-            self.refuse("unknown", first.column, f"{quoted(first.text)} is no move: {', '.join(MOVES)}")
-        wanted, given = MOVES[first.text], self.words[1:]
+        if first.text not in LINES:
+            self.refuse("unknown", first.column, f"{quoted(first.text)} is none of {', '.join(LINES)}")
+        wanted, given = LINES[first.text], self.words[1:]
         if len(given) != len(wanted):
             column = given[len(wanted)].column if len(given) > len(wanted) else len(self.data) + 1
             form = " ".join((first.text, *wanted))
@@ -69,12 +96,13 @@ class Line:
         why = number_fault(word.text)
         if why:
             self.refuse("number", word.column, f"{operand} is {quoted(word.text)}: {why}")
-        least, most = RANGES[operand]
+        least, most = (1, MOST_N[self.words[0].text]) if operand == "N" else RANGES[operand]
         if len(word.text) > 20 or not least <= int(word.text) <= most:
             self.refuse("range", word.column, f"{operand} is {quoted(word.text)} and must be {least} to {most}")
 
-    def turns(self) -> int:
-        return int(self.words[2].text) if self.words[0].text == "run" else 0
+    def item(self) -> "Tuple[int | str, ...]":
+        first, *rest = (word.text for word in self.words)
+        return (first, *(word if operand == "FLAGS" else int(word) for operand, word in zip(LINES[first], rest)))
 
 
 def quoted(word: str) -> str:
@@ -120,16 +148,26 @@ def lines_of(data: bytes) -> List[bytes]:
     return lines + [last] if last else lines
 
 
-def read_script(data: bytes) -> Dict[str, int]:
-    """The number of moves and of their turns; a Refusal tells the first line that is refused."""
-    moves = turns = 0
+def read_script(data: bytes) -> Script:
+    """The script that the bytes spell; a Refusal tells the first line that is refused."""
+    script = Script()
     for number, text in enumerate(lines_of(data), 1):
         line = read_line(number, text)
-        if line is None:
-            continue
-        moves, turns = moves + 1, turns + line.turns()
-        if moves > MOST_MOVES:
-            line.refuse("toomany", 1, f"the move {moves}, where {MOST_MOVES} may be")
-        if turns > MOST_TURNS:
-            line.refuse("toomany", 1, f"{turns} turns so far, where {MOST_TURNS} may be")
-    return {"moves": moves, "turns": turns}
+        if line is not None:
+            take(script, line)
+    return script
+
+
+def take(script: Script, line: Line) -> None:
+    """Takes a line into the script."""
+    item = line.item()
+    if item[0] == "input":
+        script.inputs.append(item[1])
+        return
+    script.items.append(item)
+    script.moves += item[1] if item[0] == "auto" else 1
+    script.turns += item[1] * TURNS_OF_AUTO if item[0] == "auto" else item[2] if item[0] == "run" else 0
+    if script.moves > MOST_MOVES:
+        line.refuse("toomany", 1, f"{script.moves} moves so far, where {MOST_MOVES} may be")
+    if script.turns > MOST_TURNS:
+        line.refuse("toomany", 1, f"{script.turns} turns so far, where {MOST_TURNS} may be")

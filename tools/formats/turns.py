@@ -1,14 +1,14 @@
-"""What each turn of a run was, told from a report.
+"""What each run of a report was: steps of the runtime, and which instructions of the program completed.
 
-Of a program whose pages are all in: entering costs a turn of the runtime, then each instruction is a turn, and after a call another
-turn of the runtime leaves. The counts of the events tell how many instructions a run completed before it left.
+The report alone tells it. The answers tell what the runtime did, the events how many instructions completed before the program left.
 """
-from dataclasses import dataclass
-from typing import List, NamedTuple, NoReturn, Optional
+from dataclasses import dataclass, field
+from typing import List, NoReturn, Optional
 
 from formats.reports import Event, Move, Report
 
-FOLLOWED = ("setpte", "readpte", "eenter", "run")
+ENDS = ("ended", "trapped", "stopped")
+FAULTS = ("miss", "trap", "break")
 
 
 class TurnsFault(Exception):
@@ -17,106 +17,128 @@ class TurnsFault(Exception):
 
 @dataclass
 class Pace:
-    """The turns of a run: whether the runtime entered and left in it, which instructions completed, whether one faulted."""
+    """The turns of a run: the steps of the runtime in words, the instructions that completed, and whether one faulted."""
 
-    enters: bool
     first: int
     after: int
+    steps: List[str] = field(default_factory=list)
     faults: bool = False
-    leaves: bool = False
     event: Optional[Event] = None
-
-    def turns(self) -> int:
-        return self.enters + (self.after - self.first) + self.faults + self.leaves
-
-
-class Stay(NamedTuple):
-    """An entering with its value, and the turns from it to the exit."""
-
-    value: int
-    turns: int
 
 
 class Follower:
-    """Follows the moves of a report."""
+    """Follows the moves of a report. What a processor is about to do is `entry`, `program`, `leave`, `probe` or `guard`."""
 
     def __init__(self, report: Report):
-        self.moves = report.moves
+        self.report = report
         self.events = list(report.events)
-        self.inside = False
-        self.entering = False
+        self.saved: List[str] = []
+        self.now: Optional[str] = None
+        self.asked = self.ended = False
         self.count = 0
 
     def fail(self, move: Move, what: str) -> NoReturn:
         raise TurnsFault(f"line {move.line}: {what}")
 
-    def event_of(self, move: Move) -> Optional[Event]:
-        """The event that the run's answer shows."""
-        word, *rest = move.answer
-        if word in ("trapped", "stopped") or (word == "ended" and not self.events):
+    def pace(self, move: Move) -> Optional[Pace]:
+        """The turns of a move; none, where it is no run or is refused."""
+        word, done = move.words[0], move.answer == ("ok",)
+        if word == "eenter" and done:
+            self.now = "entry"
+        elif word == "eresume" and done:
+            if not self.saved:
+                self.fail(move, "a resume, and no frame is saved")
+            self.now = self.saved.pop()
+        elif word == "interrupt" and done:
+            self.saved.append(self.inside(move))
+            self.now = None
+        if word != "run" or move.answer[0] in ("nolp", "outside"):
             return None
+        pace = Pace(self.count, self.count)
+        self.run(move, pace, self.inside(move))
+        self.count = pace.after
+        return pace
+
+    def inside(self, move: Move) -> str:
+        if self.now is None:
+            self.fail(move, f"a {move.words[0]}, and no processor is inside")
+        return self.now
+
+    def run(self, move: Move, pace: Pace, now: str) -> None:
+        turns = int(move.words[2])
+        if now == "entry" and not (move.answer[0] == "pf" and not self.events):
+            pace.steps.append("enter")
+            turns -= 1
+            if not self.saved and not self.ended:
+                now = "program"
+            elif len(self.saved) == 1 and self.asked:
+                now = "probe"
+        if move.answer == ("in",):
+            self.stays(move, pace, now, turns)
+        else:
+            self.leaves(move, pace, now)
+
+    def stays(self, move: Move, pace: Pace, now: str, turns: int) -> None:
+        """A run after which the processor is still inside: it took all its turns."""
+        self.now = now
+        if now == "probe" and turns:
+            pace.steps.append("probe")
+        if now != "program":
+            return
+        pace.after += turns
+        if not self.events or pace.after <= self.events[0].count:
+            return
+        if self.events[0].kind != "call" or pace.after > self.events[0].count + 1:
+            self.fail(move, f"the processor is still inside, after the turn of `{self.events[0].text()}`")
+        pace.event, self.now = self.events.pop(0), "leave"
+
+    def leaves(self, move: Move, pace: Pace, now: str) -> None:
+        answer, self.now = move.answer[0], None
+        if now == "program" and answer not in ENDS or now == "program" and self.events:
+            self.program_leaves(move, pace)
+        elif now == "leave":
+            pace.steps.append("fault" if answer == "pf" else "leave")
+            self.ended |= answer == "ended"
+        elif answer == "pf":
+            pace.steps.append("fault")
+        else:
+            pace.steps += (["probe"] if answer == "ready" else ["guard"] if now == "guard" else []) + [answer]
+        if answer in ("pf", "vector"):
+            self.saved.append("program" if pace.faults else now)
+        self.after_exit(answer)
+
+    def after_exit(self, answer: str) -> None:
+        """What the runtime leaves behind."""
+        if answer in ("ask", "trapped", "stopped"):
+            self.saved = len(self.saved) * ["guard"]
+        if answer == "ready":
+            self.saved = ["program"]
+        self.asked = answer == "ask" or self.asked and answer not in ("ready", "stopped")
+        self.ended |= answer in ENDS
+
+    def program_leaves(self, move: Move, pace: Pace) -> None:
+        """A run of the program that left by a call, a vector or a fault."""
+        answer, *rest = move.answer
         if not self.events:
             self.fail(move, f"no event for the answer `{' '.join(move.answer)}`")
-        event = self.events.pop(0)
+        event = pace.event = self.events.pop(0)
         shows = {
             "call": event.kind == "call" and event.rest == tuple(map(int, rest)),
             "ended": event.kind == "call" and event.rest == (0, *map(int, rest)),
             "vector": event.kind == "trap" and event.rest == tuple(map(int, rest)),
-            "pf": event.kind == "break" or (event.kind == "trap" and event.rest == (14,)),
+            "pf": event.kind != "trap" or event.rest == (14,),
         }
-        if not shows.get(word):
+        if not shows.get(answer):
             self.fail(move, f"`{event.text()}` is not the event of the answer `{' '.join(move.answer)}`")
-        return event
-
-    def stays_in(self, move: Move) -> Pace:
-        """A run after which the processor is still inside: it took all its turns."""
-        turns = int(move.words[2]) - self.entering
-        if self.events:
-            event = self.events[0]
-            if turns > event.count - self.count + (event.kind == "call"):
-                self.fail(move, f"the processor is still inside, after the turn of `{event.text()}`")
-        return Pace(self.entering, self.count, self.count + turns)
-
-    def leaves(self, move: Move) -> Pace:
-        event = self.event_of(move)
-        if event is None:
-            return Pace(self.entering, self.count, self.count)
-        calls = event.kind == "call"
-        after = event.count + calls
-        if after < self.count:
+        pace.faults = event.kind in FAULTS
+        pace.after = event.count + (event.kind == "call")
+        if pace.after < self.count:
             self.fail(move, f"the count of `{event.text()}` is below {self.count}")
-        return Pace(self.entering, self.count, after, not calls, calls, event)
-
-    def pace(self, move: Move) -> Optional[Pace]:
-        """The turns of a move; none, where it is no run or is refused."""
-        if move.words[0] not in FOLLOWED or move.answer[0] in ("ask", "ready", "nothing"):
-            self.fail(move, "the turns of a runtime that pages are not told")
-        if move.words[0] == "eenter" and move.answer == ("ok",):
-            self.inside = self.entering = True
-        if move.words[0] != "run" or move.answer[0] in ("nolp", "outside"):
-            return None
-        if not self.inside:
-            self.fail(move, "a run, and no processor is inside")
-        self.inside = move.answer == ("in",)
-        pace = self.stays_in(move) if self.inside else self.leaves(move)
-        self.entering, self.count = False, pace.after
-        return pace
+        if event.kind == "call":
+            pace.steps.append("fault" if answer == "pf" else "leave")
 
 
 def paces_of(report: Report) -> List[Optional[Pace]]:
     """The turns of each move; a TurnsFault where the report does not tell them."""
     follower = Follower(report)
     return [follower.pace(move) for move in report.moves]
-
-
-def stays_of(report: Report) -> List[Stay]:
-    """How often a run entered, with which value, and the turns of each stay: of moves that leave the page table as it is."""
-    stays: List[Stay] = []
-    for move, pace in zip(report.moves, paces_of(report)):
-        if move.words[0] == "setpte" and move.answer == ("ok",):
-            raise TurnsFault(f"line {move.line}: `setpte` is no move of a whole run")
-        if move.words[0] == "eenter" and move.answer == ("ok",):
-            stays.append(Stay(int(move.words[2]), 0))
-        elif pace is not None:
-            stays[-1] = Stay(stays[-1].value, stays[-1].turns + pace.turns())
-    return [stay for stay in stays if stay.turns]

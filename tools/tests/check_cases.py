@@ -63,7 +63,10 @@ DETAILS = [
     ("signers", f"lab = [\n'{ZEROS}',\n'{ZEROS}']\n",
      ["signers refused: 4 repeated", "line 3, column 1: this digest of `lab` stands already", "line 2, column 1: here"]),
     ("script", "run 0 é\n", ["script refused: line 1: 1 notascii", "line 1, column 7: the byte c3 is no ASCII"]),
-    ("script", "# x\n  etrack\n", ["script refused: line 2: 2 unknown", "line 2, column 3: `etrack` is no move: setpte, readpte, eenter, run"]),
+    ("script", "# x\n  etracks\n", [
+        "script refused: line 2: 2 unknown",
+        "line 2, column 3: `etracks` is none of setpte, readpte, eblock, etrack, ewb, eldu, eldb, eremove, epa, drop, eenter, eresume, run,"
+        " interrupt, auto, input"]),
     ("script", "run 0\n", ["script refused: line 1: 3 words", "line 1, column 6: 1 word after `run`, where `run LP N` has 2"]),
     ("script", "readpte 0 1\n", ["script refused: line 1: 3 words", "line 1, column 11: 2 words after `readpte`, where `readpte PAGE` has 1"]),
     ("script", "run 0 0x1\n", ["script refused: line 1: 4 number", "line 1, column 7: N is `0x1`: it is no decimal digits"]),
@@ -77,7 +80,7 @@ DETAILS = [
     ("script", "setpte 0 8 p-\n", ["script refused: line 1: 7 flags", "line 1, column 12: FLAGS is `p-`: `-` is none of `pwxad`, and `-` stands alone"]),
     ("script", 20 * "run 0 1000000\n" + "run 0 1\n",
      ["script refused: line 21: 6 toomany", "line 21, column 1: 20000001 turns so far, where 20000000 may be"]),
-    ("script", 20001 * "readpte 0\n", ["script refused: line 20001: 6 toomany", "line 20001, column 1: the move 20001, where 20000 may be"]),
+    ("script", 20001 * "readpte 0\n", ["script refused: line 20001: 6 toomany", "line 20001, column 1: 20001 moves so far, where 20000 may be"]),
 ]
 
 # Words, what is written to either stream, and the status; the files are those of the examples.
@@ -85,10 +88,11 @@ CALLS = [
     (["image", "calls.toml"], "image accepted: 1 page, budget 1, clusters `a` 1, measurement"
      " 81f1c6072e43803617cc2c3f80323b5ae505ee1cec1d94374ef6c34e6da9f718\n", "", 0),
     (["signers", "nobody.toml"], "signers accepted: `other` 0\n", "", 0),
-    (["script", "calls.script"], "script accepted: 4 moves, 2000 turns\n", "", 0),
-    (["run", "calls.toml", "signers.toml", "calls.script"], "run accepted: 1 page, 4 moves, signed by `lab`\n", "", 0),
-    (["run", "calls.toml", "nobody.toml", "calls.script"], "", "image refused: 12 unknownsigner\n  the image names `lab`; the signers file has `other`\n", 3),
-    (["run", "calls.toml", "zeros.toml", "calls.script"], "", "image refused: 13 notsigned\n  the measurement of the image is"
+    (["script", "by_hand.script"], "script accepted: 12 moves, 5000 turns\n", "", 0),
+    (["script", "input.script"], "script accepted: 20 moves, 20000 turns\n", "", 0),
+    (["run", "calls.toml", "signers.toml", "by_hand.script"], "run accepted: 1 page, 12 moves, signed by `lab`\n", "", 0),
+    (["run", "calls.toml", "nobody.toml", "auto.script"], "", "image refused: 12 unknownsigner\n  the image names `lab`; the signers file has `other`\n", 3),
+    (["run", "calls.toml", "zeros.toml", "auto.script"], "", "image refused: 13 notsigned\n  the measurement of the image is"
      " 81f1c6072e43803617cc2c3f80323b5ae505ee1cec1d94374ef6c34e6da9f718\n  `lab` signs 1 other, and no name has it\n", 3),
     (["run", "calls.toml", "nobody.toml", "bad.script"], "", "script refused: line 2: 5 range\n  line 2, column 7: N is `0` and must be 1 to 1000000\n", 4),
     (["run", "calls.toml", "none", "bad.script"], "", "read failed: none\n  No such file or directory\n", 5),
@@ -130,9 +134,11 @@ def test_calls(tally: Tally) -> None:
 def test_examples(tally: Tally) -> None:
     """The tool accepts and refuses the examples as the program did, and measures as it did."""
     for words, text, status in examples():
+        if status == 2:
+            continue
         if words[0] == "run":
-            told = call("check", *words)
-            wanted = (text, status) if status else ("", 0)
+            told = call("check", *words[:4])
+            wanted = (text, status) if status in (3, 4) else ("", 0)
             tally.equal(f"check as the program: {' '.join(words)}", (told.err[: len(wanted[0])], told.status), wanted)
         else:
             told = call("check", "image", words[1])

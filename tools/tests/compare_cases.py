@@ -23,7 +23,7 @@ PAIRS = [
         "not seen: differs", "  a:4: event break 3", "  b:4: output 7"]),
     ("other moves", CALL, LONGER, 1, [
         "seen by the kernel: differs at move 2, the kernel's own moves differ", "  a:3: 2 run 0 9 -> call 1 7", "  b:3: 2 run 0 8 -> in",
-        "not seen: differs", "  a:4: output 7", "  b: no more"]),
+        "not seen: differs", "  a:4: output 7", "  b:4: stop none"]),
     ("other moves of equal answers", LONGER, LONGER.replace("run 0 8", "run 0 7"), 1, [
         "seen by the kernel: differs at move 2, the kernel's own moves differ", "  a:3: 2 run 0 8 -> in", "  b:3: 2 run 0 7 -> in",
         "not seen: equal, 0 outputs and 0 events"]),
@@ -34,6 +34,13 @@ PAIRS = [
 
 # A text that is no report, and why.
 FAULTY = [
+    ("autarky 1\n", "line 1: no stop: autarky 1"),
+    ("autarky 1\nstop\n", "line 2: no stop: stop"),
+    ("autarky 1\nstop none\nstop none\n", "line 2: no line of the move 1"),
+    (report(["etrack -> ok"], [], "blame 1"), "line 3: no stop: stop blame 1"),
+    (report(["etrack -> ok"], [], "resumed"), "line 3: no stop: stop resumed"),
+    (report(["etrack -> ok"], [], "unmapped 0 fetch blame 1"), "line 3: no stop: stop unmapped 0 fetch blame 1"),
+    (report(["etrack -> ok"], [], "resumed blame 2"), "line 3: no move to blame: stop resumed blame 2"),
     ("", "line 1: a report begins with the line `autarky 1`"),
     ("autarky 2\n", "line 1: a report begins with the line `autarky 1`"),
     ("autarky 1\n1 eenter 0 0 -> ok", "line 2: the last line does not end"),
@@ -44,8 +51,8 @@ FAULTY = [
     (report(["auto -> ok"], []), "line 2: no move: auto"),
     (report(["eenter 0 0 -> okay"], []), "line 2: no answer: okay"),
     (report(["eenter 0 0 -> call 1"], []), "line 2: no answer: call 1"),
-    ("autarky 1\n2 eenter 0 0 -> ok\n", "line 2: no line of the move 1"),
-    ("autarky 1\n1 eenter 0 0\n", "line 2: no line of the move 1"),
+    ("autarky 1\n2 eenter 0 0 -> ok\nstop none\n", "line 2: no line of the move 1"),
+    ("autarky 1\n1 eenter 0 0\nstop none\n", "line 2: no line of the move 1"),
     (report([], ["output x"]), "line 2: no output: output x"),
     (report([], ["event miss 1"]), "line 2: no event: event miss 1"),
     (report([], ["event break 1", "output 1"]), "line 3: no output or event, or one that comes too late"),

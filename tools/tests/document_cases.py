@@ -2,21 +2,27 @@
 import os
 import re
 import subprocess
+import sys
 import tempfile
-from typing import List, NamedTuple
+from typing import Dict, List, NamedTuple
 
-from tests.harness import TOP, Tally, call, written
+from tests.harness import TOOLS, TOP, Tally, call, written
+from tests.program import Given, Program
 from tests.reports import example_reports
+from tests.stand_in import Kept, kept
 
-PAGE = os.path.join(TOP, "docs", "TOOLS.md")
-COMMAND = re.compile(r"tools/|data=|printf |\(cd ")
+PAGE, README = os.path.join(TOP, "docs", "TOOLS.md"), os.path.join(TOP, "README.md")
+COMMAND = re.compile(r"tools/|assembly/|data=|as |printf |echo |tail |sed |for |\(cd |autarky (run|measure) ")
+DEFINITION = re.compile(r"^(?:data=|autarky\(\)).*\n", re.MULTILINE)
+CALL = re.compile(r"cd crates/autarky && rt (try|run) --")
 PICTURES = {
-    "calls": "calls.toml calls.script",
-    "steps": "calls.toml steps.script",
+    "calls": "calls.toml auto.script",
     "unmapped": "calls.toml unmapped.script",
-    "echo": "echo.toml echo.script",
-    "denied_store": "denied_store.toml twice.script",
-    "straddling_data": "straddling_data.toml calls.script",
+    "echo": "echo.toml input.script",
+    "denied_store": "denied_store.toml auto.script",
+    "straddling_data": "straddling_data.toml auto.script",
+    "early_resume": "two_page_loop.toml early_resume.script",
+    "stuck": "calls.toml stuck.script",
 }
 
 
@@ -38,39 +44,98 @@ def blocks_of(text: str) -> List[Block]:
     return [Block(bool(COMMAND.match(block)), block) for block in blocks]
 
 
-def test_pictures(tally: Tally) -> None:
+def lookup_report(folder: str) -> str:
+    """The report of assembly/lookup.s, each page a cluster, as docs/TOOLS.md has it."""
+    signers, image = os.path.join(folder, "signers.toml"), os.path.join(folder, "lookup.toml")
+    call("image", os.path.join(TOP, "assembly", "lookup.s"), "--strict", "--define", "SECRET=1", "--clusters", "page", "--sign", signers, "-o", image)
+    return call("predict", image, signers, "auto.script").out
+
+
+def drawn_reports(folder: str) -> Dict[str, str]:
+    """The reports of the pictures."""
     reports = example_reports()
+    return {**{name: reports[example] for name, example in PICTURES.items()}, "lookup": lookup_report(folder)}
+
+
+def test_pictures(tally: Tally) -> None:
     with tempfile.TemporaryDirectory() as folder:
-        for name, example in PICTURES.items():
-            drawn = call("draw", written(folder, "r", reports[example])).out
-            tally.holds(f"docs/pictures/{name}.svg is the picture of {example}", page_text(os.path.join(TOP, "docs", "pictures", f"{name}.svg")) == drawn)
+        reports = drawn_reports(folder)
+        for name, report in reports.items():
+            drawn = call("draw", written(folder, "r", report)).out
+            tally.holds(f"docs/pictures/{name}.svg is up to date", page_text(os.path.join(TOP, "docs", "pictures", f"{name}.svg")) == drawn)
     shown = set(re.findall(r"pictures/(\w+)\.svg", page_text(PAGE)))
-    tally.equal("the pictures of the page", shown, set(PICTURES))
+    tally.equal("the pictures of the page", shown, set(reports))
+    tally.equal("the pictures that are there", {name[:-4] for name in os.listdir(os.path.join(TOP, "docs", "pictures"))}, set(reports))
 
 
 def test_names(tally: Tally) -> None:
     """Each tool that the page names is there, and each that is there is named."""
     tools = {name for name in os.listdir(os.path.join(TOP, "tools")) if "." not in name and os.path.isfile(os.path.join(TOP, "tools", name))}
     named = set(re.findall(r"`tools/(\w+)`", page_text(PAGE)))
-    tally.equal("the tools of the page", named - {"formats", "tests"}, tools)
-    tally.holds("the README names the test and the page", "`tools/test`" in page_text(os.path.join(TOP, "README.md")) and "docs/TOOLS.md" in page_text(os.path.join(TOP, "README.md")))
+    tally.equal("the tools of the page", named - {"formats", "syntax", "tests", "yardstick"}, tools)
+    for tool in sorted(tools):
+        told = call(tool, "--help")
+        tally.equal(f"{tool} --help", (told.out.startswith(f"usage: {tool} "), told.err, told.status), (True, "", 0))
+    readme = page_text(README)
+    tally.holds("the README names the test and the page", "`tools/test`" in readme and "docs/TOOLS.md" in readme)
+
+
+# ---- The commands
+
+
+class Shell:
+    """Runs the commands of a page one after the other, with the stand-in for the program."""
+
+    def __init__(self, home: str, calls: str):
+        self.home = home
+        self.program = f"{sys.executable} {os.path.join(TOOLS, 'tests', 'stand_in.py')} {calls}"
+        self.definitions = ""
+        self.told = ""
+
+    def run(self, text: str) -> str:
+        """What a block of commands tells. A measurement that the page wants to be filled in is the last one that was told."""
+        measured = re.findall(r"^[0-9a-f]{64}$", self.told, re.MULTILINE)
+        text = CALL.sub(self.program, text.replace("MEASUREMENT", measured[-1] if measured else ""))
+        self.definitions += "".join(DEFINITION.findall(text))
+        words, outside = ["sh", "-c", self.definitions + text], {**os.environ, "HOME": self.home}
+        done = subprocess.run(words, cwd=TOP, env=outside, capture_output=True, text=True, check=False)
+        self.told = done.stdout + done.stderr
+        return self.told
+
+
+def test_page(tally: Tally, path: str) -> List[Kept]:
+    """The commands of a page give what stands below them. What they called the program with is given back."""
+    name = os.path.basename(path)
+    with tempfile.TemporaryDirectory() as home, tempfile.TemporaryDirectory() as calls:
+        shell = Shell(home, calls)
+        for block in blocks_of(page_text(path)):
+            first = block.text.splitlines()[0]
+            if block.is_command:
+                told = shell.run(block.text)
+                tally.holds(f"{name}: runs: {first}", "not found" not in told and "Traceback" not in told)
+            else:
+                missing = [line for line in block.text.splitlines() if line not in shell.told.splitlines()]
+                tally.equal(f"{name}: is given: {first}", missing, [])
+        return kept(calls)
 
 
 def test(tally: Tally) -> None:
     test_pictures(tally)
     test_names(tally)
+    for path in (README, PAGE):
+        test_page(tally, path)
 
 
-def test_commands(tally: Tally) -> None:
-    """The commands of the page, one after the other, give what stands below them. They run the program."""
-    with tempfile.TemporaryDirectory() as home:
-        told = ""
-        first = ""
-        for block in blocks_of(page_text(PAGE)):
-            if not block.is_command:
-                tally.holds(f"page: is given: {block.text.splitlines()[0]}", all(line in told.splitlines() for line in block.text.splitlines()))
-                continue
-            first = first or block.text.splitlines()[0]
-            done = subprocess.run(["sh", "-c", f"{first}\n{block.text}"], cwd=TOP, env={**os.environ, "HOME": home}, capture_output=True, text=True, check=False)
-            told = done.stdout + done.stderr
-            tally.holds(f"page: runs: {block.text.splitlines()[0]}", "not found" not in told and "Traceback" not in told)
+def test_program(tally: Tally, program: Program) -> None:
+    """The program writes what its stand-in writes in the commands."""
+    calls: Dict[str, Kept] = {}
+    for path in (README, PAGE):
+        calls.update({f"{os.path.basename(path)[:-3]}_{number}": each for number, each in enumerate(test_page(Tally(), path))})
+    shared: Dict[str, bytes] = {}
+    cases: Dict[str, Given] = {}
+    for name, each in calls.items():
+        shared.update({f"{name}_{file}": data for file, data in each.files.items()})
+        cases[name] = Given(b"", [f"{name}_{word}" if word in each.files else word for word in each.words])
+    told = program.calls(cases, shared)
+    for name, each in calls.items():
+        tally.equal(f"program: call {name} of the pages", told.get(name, ""), each.answer)

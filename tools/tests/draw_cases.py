@@ -11,26 +11,29 @@ from tests.reports import PF, example_reports, long_reports, report
 SVG = "{http://www.w3.org/2000/svg}"
 LETTER, HEIGHT = 6.63, 10
 
-# A report, the words of its call, and texts that its picture has, in order.
+# A report, and texts that its picture has, in order.
 TEXTS = [
-    (report(["eenter 0 0 -> ok", "run 0 9 -> call 1 7"], ["output 7", "event call 3 1 7"]), [],
+    (report(["eenter 0 0 -> ok", "run 0 9 -> call 1 7"], ["output 7", "event call 3 1 7"]),
      ["2 moves, 1 output, 1 event", "outputs: 7", "kernel", "runtime", "program", "processor 0", "1", "eenter", "0 0", "ok", "2", "run", "0 9",
       "call", "1 7", "enter, leave", "0..3", "call at 3"]),
-    (report(["setpte 0 8 - -> ok", "eenter 0 0 -> ok", f"run 0 9 -> {PF}"], ["event break 0"]), [],
-     ["none", "break at 0", "break: move 1 is to blame"]),
-    (report(["setpte 0 8 - -> ok", "setpte 0 8 pxad -> ok", "setpte 0 9 pxad -> ok", "eenter 0 0 -> ok", f"run 0 9 -> {PF}"], ["event break 0"]), [],
-     ["break: one of the moves 1, 3 is to blame"]),
-    (report(["setpte 0 8 - -> ok", "setpte 0 8 pxad -> ok", "setpte 0 9 pxad -> ok", "eenter 0 0 -> ok", f"run 0 9 -> {PF}"], ["event break 0"]),
-     ["--image", "calls.toml"], ["break: move 3 is to blame"]),
-    (report(["readpte 0 -> pte 8 pxad", "setpte 0 8 pad -> ok", "setpte 1 9 - -> nopage", "eenter 0 0 -> ok", f"run 0 9 -> {PF}"], ["event break 0"]), [],
-     ["break: move 2 is to blame"]),
-    (report([*(f"setpte {p} 9 - -> ok" for p in range(2, 11)), "eenter 0 0 -> ok", f"run 0 9 -> {PF}"], ["event break 5"]), [],
-     ["2..10 9 -", "0..4", "break at 5", "break: one of 9 moves is to blame"]),
-    (report(["eenter 0 0 -> ok", f"run 0 9 -> {PF}", "eenter 0 0 -> ok", "run 0 9 -> trapped 14"], ["event trap 2 14"]), [], ["0..1", "trap 14 at 2"]),
-    (long_reports()["20000 steps"], [], ["1", "2", "enter", "3..20000 ×19998", "0..19997"]),
-    (long_reports()["calling"], [], ["100 times", "1..298", "0 0..99", "1 0..9801", "call at 4..499", "inside", "nolp", "trap 13 at 600"]),
-    (long_reports()["a call that is not shown"], [], ["events that no answer shows:", "call at 2"]),
-    (long_reports()["paging"], [], ["processor 0", "processor 1", "ask", "ready", "events:", "miss 3 at 4", "miss 2 at 9..15, 3 times", "end at 20"]),
+    (report(["setpte 0 8 - -> ok", "eenter 0 0 -> ok", f"run 0 9 -> {PF}"], ["event break 0"]), ["none", "break at 0"]),
+    (report(["setpte 0 8 - -> ok", "eenter 0 0 -> ok", f"run 0 9 -> {PF}", "eenter 0 0 -> ok", "run 0 9 -> stopped"], ["event break 0"],
+            "unmapped 0 exec blame 1"), ["none", "break at 0", "enter, stopped", "unmapped 0 exec: move 1 is to blame"]),
+    (report([*(f"setpte {p} 9 - -> ok" for p in range(2, 11)), "eenter 0 0 -> ok", f"run 0 9 -> {PF}", "eenter 0 0 -> ok", "run 0 9 -> stopped"],
+            ["event break 5"], "unmapped 4 read blame 3"), ["2..10 9 -", "0..4", "break at 5", "unmapped 4 read: move 3 is to blame"]),
+    (report(["eenter 0 0 -> ok", f"run 0 9 -> {PF}", "eenter 0 0 -> ok", "run 0 9 -> trapped 14"], ["event trap 2 14"]), ["0..1", "trap 14 at 2", "enter, trapped"]),
+    (report(["setpte 5 6 - -> ok", "eenter 0 0 -> ok", f"run 0 1 -> {PF}", "eresume 0 -> pending", "eenter 0 0 -> ok", f"run 0 1 -> {PF}",
+             "eenter 0 0 -> ok", f"run 0 1 -> {PF}", "eenter 0 0 -> gp"], [], "stuck 5 write blame 1"), ["fault", "fault", "stuck 5 write: move 1 is to blame"]),
+    (report(["eenter 0 0 -> ok", f"run 0 9 -> {PF}", "eenter 0 0 -> ok", "run 0 9 -> ask 0 0", "eresume 0 -> ok", "run 0 1 -> stopped"], ["event miss 0 0"],
+            "resumed blame 5"), ["miss 0 at 0", "enter, ask", "guard, stopped", "resumed: move 5 is to blame"]),
+    (long_reports()["20000 steps"], ["1", "2", "enter", "3..20000 ×19998", "0..19997"]),
+    (long_reports()["calling"], ["100 times", "1..298", "0 0..99", "1 0..9801", "call at 4..499", "inside", "nolp", "trap 13 at 600"]),
+    (report(["eenter 0 0 -> ok", f"run 0 9 -> {PF}", "eenter 0 0 -> ok", "run 0 9 -> ask 0 3", "eenter 0 0 -> ok", "run 0 9 -> ready", "eresume 0 -> ok",
+             f"run 0 9 -> {PF}", "eenter 0 0 -> ok", "run 0 9 -> ask 1 5", "eenter 0 0 -> ok", "run 0 9 -> ready"], ["event miss 0 3", "event miss 4 5"]),
+     ["clusters in", "asks 3", "3", "asks 5", "5"]),
+    (long_reports()["a call before its leave"], ["call at 2"]),
+    (long_reports()["paging"], ["processor 0", "processor 1", "miss 0 at 0", "ask", "enter, ask", "enter, probe, ready", "35 times", "interrupt", "195..200", "end at 200"]),
+    (long_reports()["no paces"], ["turns are not told: line 2: a run, and no processor is inside"]),
 ]
 
 
@@ -110,18 +113,16 @@ def test_files(tally: Tally, folder: str) -> None:
         tally.equal("draw -o FILE", (tuple(to_file), file.read()), (("", "", 0), call("draw", path).out))
     told = call("draw", path, "-o", os.path.join(folder, "none", "r.svg"))
     tally.equal("draw -o into no folder", tuple(told), ("", f"draw: {folder}/none/r.svg: No such file or directory\n", 2))
-    told = call("draw", os.path.join(DATA, "calls.script"))
+    told = call("draw", os.path.join(DATA, "auto.script"))
     tally.equal("draw of no report", (told.out, told.err.split(": ", 2)[2], told.status), ("", "line 1: a report begins with the line `autarky 1`\n", 2))
-    told = call("draw", path, "--image", "nobody.toml")
-    tally.equal("draw with no image", (told.out, told.err.split("\n")[0], told.status), ("", "image refused: 2 unknownkey", 2))
 
 
 def test(tally: Tally) -> None:
     with tempfile.TemporaryDirectory() as folder:
-        for text, words, wanted in TEXTS:
-            told = call("draw", written(folder, "r", text), *words)
+        for text, wanted in TEXTS:
+            told = call("draw", written(folder, "r", text))
             texts = [text.words for text in texts_of(told.out)]
-            tally.equal(f"draw {' '.join(words)}: has {', '.join(wanted)[-70:]}", missing(wanted, texts), [])
+            tally.equal(f"draw: has {', '.join(wanted)[-70:]}", missing(wanted, texts), [])
         for name, text in {**example_reports(), **long_reports()}.items():
             test_picture(tally, name, written(folder, "r", text))
         test_files(tally, folder)

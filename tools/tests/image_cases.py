@@ -112,12 +112,30 @@ def test_linked(tally: Tally, folder: str) -> None:
     source, one = os.path.join(folder, "sum.s"), call("image", os.path.join(folder, "sum.s")).out
     subprocess.run(["as", "-o", "sum.o", source], cwd=folder, check=True)
     tally.equal("image of an object", call("image", os.path.join(folder, "sum.o")).out, one)
+    words = ["--defsym=enclave_base=0x400000", "-T", os.path.join(TOP, "assembly", "enclave.ld"), "-o", "linked", "sum.o"]
+    subprocess.run(["ld", *words], cwd=folder, check=True)
+    tally.equal("image of what ld links by assembly/enclave.ld", call("image", os.path.join(folder, "linked")).out, call("image", source, "--base", "0x400000").out)
     for kind, words, why in LINKED:
         subprocess.run(["ld", "-static", *words, "-o", "linked", "sum.o"], cwd=folder, check=True, capture_output=True)
         told = call("image", os.path.join(folder, "linked"))
         tally.equal(f"image of {kind}", (told.err, told.status), (f"image: {why}\n", 1))
     told = call("image", os.path.join(folder, "sum.o"), os.path.join(folder, "linked"))
-    tally.equal("image of several files", (told.err, told.status), ("image: several files, and not all of them are .s or .o\n", 1))
+    tally.equal("image of several files", (told.err, told.status), ("image: several files, and not all of them are .c, .s or .o\n", 1))
+
+
+def test_defined(tally: Tally, folder: str) -> None:
+    """A defined name has its number in assembly and in C."""
+    lookup = os.path.join(TOP, "assembly", "lookup.s")
+    for secret, digits in ((0, ""), (1, "01"), (258, "0201")):
+        told = call("image", lookup, "--define", f"SECRET={secret}")
+        tally.equal(f"image with SECRET={secret}", re.findall(r'^bytes = "(\w*)"$', told.out, re.MULTILINE)[-1:], [digits])
+    tally.equal("image by default", call("image", lookup).out, call("image", lookup, "--define", "SECRET=0x1").out)
+    source = written(folder, "defined.c", "const unsigned long cells[] = {FIRST, SECOND};\n")
+    told = call("image", source, "--define", "FIRST=1", "--define", "SECOND=0x203")
+    tally.equal("image of C with numbers", (re.findall(r'^bytes = "(\w*)"$', told.out, re.MULTILINE), told.status), (["01000000000000000302"], 0))
+    for word, why in (("SECRET", "'SECRET' is no NAME=N"), ("1=1", "'1=1' is no NAME=N"), ("A=x", "'x' is no number")):
+        told = call("image", lookup, "--define", word)
+        tally.equal(f"image with --define {word}", (told.out, told.err.splitlines()[-1], told.status), ("", f"image: error: argument --define: {why}", 2))
 
 
 def test_refused(tally: Tally, folder: str) -> None:
@@ -137,7 +155,9 @@ def test_refused(tally: Tally, folder: str) -> None:
         tally.equal(f"image refused: {why}", (told.out, told.err.splitlines()[-1:], told.status), ("", [why], 1))
     told = call("image", written(folder, "text", "no program"))
     tally.equal("image of no program", tuple(told), ("", "image: no ELF file of 64 bits, little-endian\n", 1))
-    tally.equal("image of no file", call("image", os.path.join(folder, "none")).status, 2)
+    for name in ("none", "none.c", "none.s", "none.o"):
+        told = call("image", os.path.join(folder, name))
+        tally.equal(f"image of {name}, which is no file", tuple(told), ("", f"image: {folder}/{name}: No such file or directory\n", 2))
 
 
 def test_strangers(tally: Tally) -> None:
@@ -167,7 +187,7 @@ def test_signing(tally: Tally, folder: str) -> None:
     call("image", source, "--sign", signers, "--signer", "new one", "-o", image)
     with open(signers, encoding="utf-8") as file:
         tally.equal("image signs under a new name", file.read().splitlines()[-1], f'"new one" = ["{digest}"]')
-    calls = os.path.join(TOP, "crates", "examples", "data", "calls.script")
+    calls = os.path.join(TOP, "crates", "examples", "data", "auto.script")
     tally.equal("the image is signed", call("check", "run", image, signers, calls).status, 0)
     told = call("image", source, "--sign", written(folder, "bad", "lab = 1"), "-o", image)
     tally.equal("image with bad signers", (told.err.splitlines()[0], told.status), ("signers refused: 2 badkey", 1))
@@ -188,6 +208,7 @@ def test(tally: Tally) -> None:
     with tempfile.TemporaryDirectory() as folder:
         test_written(tally, folder)
         test_linked(tally, folder)
+        test_defined(tally, folder)
         test_refused(tally, folder)
         test_signing(tally, folder)
     test_strangers(tally)

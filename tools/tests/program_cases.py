@@ -1,32 +1,40 @@
-"""Tests of the tools against the program, which `rt try` builds once and runs on each case without proofs."""
+"""Tests of the tools against the program."""
 import os
 import random
-import re
-import subprocess
 import tempfile
 from typing import Dict, Iterator, List, NamedTuple
 
-from formats.images import read_image
+from formats.images import measurement, read_image
 from formats.refusals import Refusal
 from formats.reports import read_report
 from formats.scripts import read_script
 from formats.signers import check_signed, read_signers
-from tests.harness import DATA, TOP, Tally, call, written
+from formats.writing import image_text
+from tests.harness import DATA, TOP, Tally, call
+from tests.program import Given, Program
+from tests.random_programs import random_program
+from tests.random_runs import random_run
 from tests.reports import example_reports
+from tests.run_cases import images
 from tests.tables import Case, all_cases
+from yardstick.machine import Run as Emulated
 
 RANDOM_CASES = 300
+RANDOM_RUNS = 400
+RANDOM_PROGRAMS = 200
 PIECES = ["'", '"', "[", "]", "{", "}", ",", "\n", "\r\n", "\r", "\t", " ", "#", "=", ".", "-", "+", "_", "0", "1", "9", "f", "x", "é", "Ã©", "\\", "\\u0061",
           "\0", "\x7f", "'''", '"""', "[[page]]", "[page]", "true", "1e3", "0x10", "2024-02-30", "signer", "a.b = 1\n", "99999999999999999999"]
 REPORT = "autarky 1"
+NOTHING = "autarky 1\nstop none\n"
 
 
 class Run(NamedTuple):
-    """A run of the program: the file in question, and the names of the three files, of which `{}` is that one."""
+    """A run of the program: the file in question, the names of the three files, of which `{}` is that one, and options."""
 
     kind: str
     data: bytes
     names: "tuple[str, str, str]"
+    options: "tuple[str, ...]" = ()
 
     def files(self) -> List[bytes]:
         return [self.data if name == "{}" else example(name) for name in self.names]
@@ -75,20 +83,11 @@ def line_by_tool(run: Run) -> str:
     return REPORT
 
 
-def told_by_program(runs: Dict[str, Run], ours: Dict[str, bytes]) -> Dict[str, str]:
+def told_by_program(program: Program, runs: Dict[str, Run], ours: Dict[str, bytes]) -> Dict[str, str]:
     """What the program writes of each run, by name. The files that the runs name are these, or of the examples."""
     shared = sorted({name for run in runs.values() for name in run.names if name != "{}"})
-    with tempfile.TemporaryDirectory() as cases, tempfile.TemporaryDirectory() as folder:
-        data = []
-        for name in shared:
-            data += ["--data", f"{name}={written(folder, name, ours[name] if name in ours else example(name))}"]
-        for name, run in runs.items():
-            written(cases, name, run.data)
-            written(cases, f"{name}.args", "".join(f"{file}\n" for file in run.names))
-        words = ["rt", "try", *data, "--cases", cases, "--", "run"]
-        done = subprocess.run(words, cwd=os.path.join(TOP, "crates", "autarky"), stdout=subprocess.PIPE, stderr=subprocess.STDOUT, check=False)
-    text = done.stdout.decode("latin-1")
-    return {name: body for name, body in re.findall(r"^== (\S+)\n(.*?)^case=\1 ", text, re.DOTALL | re.MULTILINE)}
+    files = {name: ours[name] if name in ours else example(name) for name in shared}
+    return program.calls({name: Given(run.data, ["run", *run.names, *run.options]) for name, run in runs.items()}, files)
 
 
 def victims() -> "tuple[Dict[str, Run], Dict[str, bytes]]":
@@ -98,9 +97,9 @@ def victims() -> "tuple[Dict[str, Run], Dict[str, bytes]]":
         signers = os.path.join(folder, "victims.toml")
         for name in VICTIMS:
             image = call("image", os.path.join(TOP, "assembly", f"{name}.s"), "--sign", signers).out
-            runs[f"victim_{name}"] = Run("image", image.encode(), ("{}", "victims.toml", "calls.script"))
+            runs[f"victim_{name}"] = Run("image", image.encode(), ("{}", "victims.toml", "long.script"))
         with open(signers, "rb") as file:
-            return runs, {"victims.toml": file.read()}
+            return runs, {"victims.toml": file.read(), "long.script": b"auto 2000\n"}
 
 
 def fnv1a(text: bytes) -> int:
@@ -111,22 +110,49 @@ def fnv1a(text: bytes) -> int:
 
 
 # What the sources of assembly/ put out.
-VICTIMS = {"lookup": [], "power": [pow(3, 0xB00D, 1_000_003)], "hash": [fnv1a(b"attack at dawn")]}
+VICTIMS = {"lookup": [], "power": [pow(3, 0xB00D, 1_000_003)], "hash": [fnv1a(b"at dawn!")]}
 
 
 def stepping_runs() -> Dict[str, Run]:
-    """Each example that runs to its end, with the scripts that step through it and unmap pages around each step."""
+    """Examples that run to their end, with scripts that step through them and unmap pages around each step."""
     runs = {}
-    with tempfile.TemporaryDirectory() as folder:
-        for name, text in example_reports().items():
-            image = name.split(" ")[0]
-            if "ended" not in text:
-                continue
-            path = written(folder, "r", text)
-            for kind, words in (("step", ["single-step"]), ("unmap", ["unmap", image])):
-                script = call("scripts", *words, "--report", path).out
-                runs[f"{kind}_{name.replace(' ', '_')}"] = Run(kind, script.encode(), (image, "signers.toml", "{}"))
+    for name, text in example_reports().items():
+        image, script, *options = name.split(" ")
+        if "ended" not in text or options:
+            continue
+        for kind in ("single-step", "unmap"):
+            steps = call("scripts", kind, image, script).out
+            runs[f"{kind}_{image}_{script}"] = Run(kind, steps.encode(), (image, "signers.toml", "{}"))
     return runs
+
+
+def random_runs() -> "tuple[Dict[str, Run], Dict[str, str], Dict[str, bytes]]":
+    """Runs at random of the images of the program's own tables, with their reports by the emulation; and the files that they name."""
+    found = {name: image for name, image in images().items() if name != "B3"}
+    files = {f"table_{name}.toml": image_text(image).encode() for name, image in found.items()}
+    digests = ", ".join(f'"{measurement(image)}"' for image in found.values())
+    runs, reports = {}, {}
+    for seed in range(RANDOM_RUNS):
+        image = list(found)[seed % len(found)]
+        made = random_run(found[image], seed)
+        runs[f"random_{seed}"] = Run("run", made.script.encode(), (f"table_{image}.toml", "tables.toml", "{}"), tuple(made.options))
+        reports[f"random_{seed}"] = made.report
+    return runs, reports, {**files, "tables.toml": f"lab = [{digests}]\n".encode()}
+
+
+def random_programs() -> "tuple[Dict[str, Run], Dict[str, str], Dict[str, bytes]]":
+    """Programs at random under the honest kernel, likewise."""
+    runs, reports, digests = {}, {}, {}
+    script = b"auto 200\n"
+    for seed in range(RANDOM_PROGRAMS):
+        image, name = random_program(seed), f"program_{seed}"
+        runs[name] = Run("image", image_text(image).encode(), ("{}", "programs.toml", "programs.script"))
+        emulated = Emulated(image)
+        emulated.play(read_script(script))
+        reports[name] = emulated.report()
+        digests[measurement(image)] = name
+    listed = ", ".join(f'"{digest}"' for digest in digests)
+    return runs, reports, {"programs.toml": f"lab = [{listed}]\n".encode(), "programs.script": script}
 
 
 def seen_of(text: str) -> "list[object]":
@@ -136,32 +162,36 @@ def seen_of(text: str) -> "list[object]":
 
 
 def test_stepping(tally: Tally, runs: Dict[str, Run], told: Dict[str, str]) -> None:
-    """Stepped runs have the outputs and the events of the whole run, and no step is refused; with pages unmapped they may break."""
+    """Stepped runs have the outputs and the events of the whole run, and no step is refused; both are what the emulation says."""
     whole = {name.replace(" ", "_"): text for name, text in example_reports().items()}
     for name, run in runs.items():
-        text, wanted = told.get(name, REPORT + "\n"), seen_of(whole[name.split("_", 1)[1]])
-        breaks = "\nevent break " in text
-        tally.holds(f"program: {name} has the outputs and events of the whole run, or breaks", breaks or seen_of(text) == wanted)
-        if name.startswith("step"):
-            tally.equal(f"program: {name}, breaks, and steps that are refused", (breaks, text.count(" -> outside")), (False, 0))
-        else:
-            tally.equal(f"program: {name} is not stopped but by a break", breaks, " -> pf " in text)
+        text = told.get(name, NOTHING)
+        if run.kind == "single-step":
+            tally.equal(f"program: {name} has the outputs and events of the whole run", seen_of(text), seen_of(whole[name.split("_", 1)[1]]))
+            tally.equal(f"program: {name}, steps that are refused", text.count(" -> outside"), 0)
+        emulated = Emulated(read_image(example(run.names[0])))
+        emulated.play(read_script(run.data))
+        tally.equal(f"program: {name} as emulated", text, emulated.report())
 
 
 def test_victims(tally: Tally, told: Dict[str, str]) -> None:
     for name, outputs in VICTIMS.items():
-        report = read_report(told.get(f"victim_{name}", REPORT + "\n"))
+        report = read_report(told.get(f"victim_{name}", NOTHING))
         tally.equal(f"program: assembly/{name}.s puts out", [value for value, _ in report.outputs], outputs)
         tally.equal(f"program: assembly/{name}.s ends", report.events[-1].rest if report.events else None, (0, 0))
 
 
-def test(tally: Tally) -> None:
+def test_program(tally: Tally, program: Program) -> None:
     cases = [*all_cases(), *random_cases()]
     runs = {f"case_{number}": run_of(case.kind, case.data) for number, case in enumerate(cases)}
     stepping = stepping_runs()
     linked, signers = victims()
-    told = told_by_program({**runs, **stepping, **linked}, signers)
+    hostile, reports, files = random_runs()
+    others, more_reports, more_files = random_programs()
+    told = told_by_program(program, {**runs, **stepping, **linked, **hostile, **others}, {**signers, **files, **more_files})
     for (name, run), case in zip(runs.items(), cases):
         tally.equal(f"program: {case.kind}: {case.name[:80]}", told.get(name, "nothing\n").split("\n")[0], line_by_tool(run))
+    for name, report in {**reports, **more_reports}.items():
+        tally.equal(f"program: {name} as emulated", told.get(name, "nothing\n"), report)
     test_stepping(tally, stepping, told)
     test_victims(tally, told)

@@ -6,15 +6,15 @@ from tests.harness import examples
 PF = "pf 268435456 4"
 
 
-def report(moves: List[str], rest: List[str]) -> str:
-    """The text of a report, of moves with their answers, outputs and events."""
+def report(moves: List[str], rest: List[str], stop: str = "none") -> str:
+    """The text of a report, of moves with their answers, outputs, events and the stop."""
     lines = [f"{number} {move}" for number, move in enumerate(moves, 1)]
-    return "\n".join(["autarky 1", *lines, *rest, ""])
+    return "\n".join(["autarky 1", *lines, *rest, f"stop {stop}", ""])
 
 
 def example_reports() -> Dict[str, str]:
     """The reports of the examples, by the names of image and script."""
-    return {f"{words[1]} {words[3]}": text for words, text, _ in examples() if text.startswith("autarky 1\n")}
+    return {" ".join([words[1], *words[3:]]): text for words, text, _ in examples() if text.startswith("autarky 1\n")}
 
 
 def stepped(turns: int) -> str:
@@ -28,7 +28,7 @@ def unmapping() -> str:
         page = step % 3 + 1
         moves += [f"setpte {page} {8 + page} - -> ok", "run 0 1 -> in", f"setpte {page} {8 + page} pwad -> ok"]
     moves += ["setpte 0 8 pad -> ok", f"run 0 10 -> {PF}", "readpte 0 -> pte 8 pad", "eenter 0 0 -> ok", "run 0 10 -> stopped"]
-    return report(moves, ["event break 199"])
+    return report(moves, ["event break 199"], "unmapped 0 exec blame 602")
 
 
 def calling() -> str:
@@ -47,17 +47,22 @@ def wide() -> str:
     moves = ["setpte 1 4294967295 pwxad -> ok", "eenter 0 18446744073709551615 -> ok", f"run 0 1000000 -> {PF}"]
     for i in range(60):
         moves += [f"readpte {i} -> pte {4294967295 - i} pwxad", f"eenter 3 {2**64 - 1 - i} -> nolp", f"run 0 {i + 1} -> outside", f"setpte {i + 5} {i} -" + " -> nopage"]
-    return report([*moves, "eenter 0 0 -> ok", "run 0 1 -> stopped"], ["event break 18446744073709551615"])
+    return report([*moves, "eenter 0 0 -> ok", "run 0 1 -> stopped"], ["event break 18446744073709551615"], "unmapped 1 write blame 1")
 
 
 def paging() -> str:
-    """A runtime that pages, on two processors; the machine does not serve these moves yet."""
-    moves = ["eenter 0 0 -> ok", f"run 0 100 -> {PF}", "eenter 0 0 -> ok", "run 0 100 -> ask 1 3", "eblock 9 -> ok", "etrack -> ok",
-             "ewb 9 20 0 -> handle 44", "eldu 9 12 3 20 1 -> ok", "setpte 3 9 pwad -> ok", "eenter 1 0 -> ok", "run 1 100 -> ready",
-             "eresume 0 -> ok", "interrupt 0 -> ok", "eresume 0 -> ok", "run 0 100 -> ended 0"]
-    return report(moves, ["event miss 4 3", "event miss 9 2", "event miss 12 2", "event miss 15 2", "event call 20 0 0"])
+    """A runtime that pages, on two processors, for a program that misses again and again."""
+    moves, events = ["eenter 0 0 -> ok"], []
+    for i in range(40):
+        moves += [f"run 0 100 -> {PF}", "eenter 1 0 -> ok", f"run 1 100 -> ask {int(i > 3)} {i % 7}"]
+        if i > 3:
+            moves += [f"setpte {i % 9} 0 - -> ok", "eblock 9 -> ok", "etrack -> ok", f"ewb 9 1 {i} -> handle {i + 44}"]
+        moves += [f"eldu 9 {i} 3 1 1 -> ok", "setpte 3 9 pwad -> ok", "eenter 0 0 -> ok", "run 0 100 -> ready", "eresume 0 -> ok"]
+        events.append(f"event miss {5 * i} {i % 7}")
+    return report([*moves, "interrupt 0 -> ok", "eresume 0 -> ok", "run 0 100 -> ended 0"], [*events, "event call 200 0 0"])
 
 
 def long_reports() -> Dict[str, str]:
     return {"20000 steps": stepped(19_999), "unmapping": unmapping(), "calling": calling(), "wide": wide(), "paging": paging(), "nothing": report([], []),
-            "a call that is not shown": report(["eenter 0 0 -> ok", "run 0 4 -> in"], ["event call 2 1 7"])}
+            "a call before its leave": report(["eenter 0 0 -> ok", "run 0 4 -> in"], ["event call 2 1 7"]),
+            "no paces": report(["run 0 9 -> in"], [])}

@@ -14,7 +14,7 @@ use Rattle.ak_model.specs.Paging.Holdings.{InFrame, InHandle}
 use Rattle.ak_sealed.specs.SealedPages.{SealedPage, sealed_page_of}
 use Rattle.ak_measure.specs.Blocks.{zeros}
 use Rattle.ak_image.specs.Built.{pages_of, page_bytes, tcs_page}
-use Rattle.ak_image.specs.Image.{Image}
+use Rattle.ak_image.specs.Image.{Image, layout_of}
 use Rattle.ak_image.proofs.BuiltPages.{page_bytes-program, page_bytes-tcs, page_bytes-zeros}
 use Rattle.ak_pager.specs.RuntimePages.{OfCopy, IsState}
 use Rattle.ak_relation.specs.Bytes.Pages.{IsTcs, CopiesStand}
@@ -24,7 +24,6 @@ use Rattle.ak_relation.specs.State.MachineState.{State, copy}
 use Rattle.ak_encls.specs.Building.{added_entry}
 use Rattle.ak_encls.proofs.Soundness.{zero_value}
 use Rattle.ak_build.specs.Adding.{program_sealed, sealed_so_far}
-use Rattle.ak_build.specs.Built.{sealed_layout}
 
 -- the TCS says that nothing is saved, and refuses nothing
 tcs_bytes : (n : ℕ) → IsTcs 0 false (tcs_page n)
@@ -43,7 +42,7 @@ state_bytes layout flat = record {
 
 module _ (image : Image) (frames lps : ℕ) (state : State) where
   abbrev layout : Layout
-  layout = sealed_layout image frames lps
+  layout = layout_of image frames lps
 
   -- where a page of the runtime is
   runtime_place : (p i : ℕ) → p ≡ pages_of image + i → i < 6 → place_at_build layout p ≡ InFrame (2 + i)

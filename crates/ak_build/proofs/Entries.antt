@@ -1,17 +1,16 @@
 -- The entries of the EPCM after the build say what its frames hold.
-use Rattle.std.proofs.Common.{◌≡◌, ℕ, ◌+◌, ◌-◌, ◌<◌, Bool, true, false, ◌==◌, if◌then◌else◌, refl, ap, sym, ◌∙◌, subst, arith}
+use Rattle.std.proofs.Common.{◌≡◌, ℕ, ◌+◌, ◌-◌, ◌<◌, Bool, true, false, ◌==◌, if◌then◌else◌, refl, ap, sym, ◌∙◌, arith}
 use Rattle.std.proofs.lemmas.Bool.{eqb-true}
 use Rattle.std.proofs.lemmas.Bool.Decides.{nat_tests}
 use Rattle.std.specs.Prelude.{nat_lt, Some, None}
 use Rattle.ak_core.specs.Layout.{Layout}
-use Rattle.ak_core.specs.declared.build.Build.{Build}
 use Rattle.ak_core.specs.declared.page.Kind.TheVariants.{Read, Write, Exec}
 use Rattle.ak_core.specs.declared.page.Perm.{Perm}
 use Rattle.ak_core.specs.declared.page.Perm.TheVariants.{R, Rw, Rx}
 use Rattle.ak_core.specs.declared.page.PageType.TheVariants.{Tcs, Reg}
 use Rattle.ak_model.specs.Paging.Pages.{pages, tcs_page, perm_of, allows, permits_by}
-use Rattle.ak_model.specs.Paging.Build.{held_at_build, later_frame}
-use Rattle.ak_model.specs.Paging.Holdings.{SecsFrame, VaFrame, PageFrame}
+use Rattle.ak_model.specs.Paging.Build.{held_at_build}
+use Rattle.ak_model.specs.Paging.Holdings.{SecsFrame, VaFrame, PageFrame, FreeFrame}
 use Rattle.ak_epcm.specs.Entries.{free_entry}
 use Rattle.ak_walk.specs.Agrees.{EntryAgrees, HoldsPage}
 use Rattle.ak_encls.specs.Building.{secs_entry, va_entry, added_entry, is_writing, is_executing}
@@ -78,16 +77,16 @@ module _ (layout : Layout) where
       by false t = regular_holds (pages layout + i) (runtime_perm i) (perm_at i few t) (at_tcs (pages layout) i ∙ t)
 
   -- each entry
-  pub entries_agree : layout.build ≡ Build.Sealed → (f : ℕ) → EntryAgrees layout (entry_so_far (pages layout) 6 f) (held_at_build layout f) None
-  entries_agree sealed f = by (f == 0) (f == 1) (nat_lt f 8) refl refl refl
+  pub entries_agree : (f : ℕ) → EntryAgrees layout (entry_so_far (pages layout) 6 f) (held_at_build layout f) None
+  entries_agree f = by (f == 0) (f == 1) (nat_lt f 8) refl refl refl
     where
       few : (f : ℕ) → nat_lt f 8 ≡ true → f - 2 < 6
       few f t = grind (arith, nat_tests)
 
       by : (a b c : Bool) → (f == 0) ≡ a → (f == 1) ≡ b → nat_lt f 8 ≡ c →
           EntryAgrees layout (if a then secs_entry else (if b then va_entry else (if c then runtime_entry (pages layout) (f - 2) else free_entry)))
-          (if a then SecsFrame else (if b then VaFrame else (if c then PageFrame (pages layout + (f - 2)) else later_frame layout.build layout f))) None
+          (if a then SecsFrame else (if b then VaFrame else (if c then PageFrame (pages layout + (f - 2)) else FreeFrame))) None
       by true b c x y z = record { valid = refl; kind = refl }
       by false true c x y z = record { valid = refl; kind = refl }
       by false false true x y z = runtime_holds (f - 2) (few f z)
-      by false false false x y z = subst (λ h. EntryAgrees layout free_entry h None) (sym (ap (λ b. later_frame b layout f) sealed)) refl
+      by false false false x y z = refl

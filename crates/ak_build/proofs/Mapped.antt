@@ -6,12 +6,11 @@ use Rattle.std.proofs.lemmas.List.{get_or-set_same, get_or-set_other, get_or-rep
 use Rattle.std.proofs.Math.ListN.{get_or-eq_default, length-set}
 use Rattle.std.specs.Prelude.{nat_lt}
 use Rattle.ak_core.specs.Layout.{Layout}
-use Rattle.ak_core.specs.declared.build.Build.{Build}
 use Rattle.ak_core.specs.declared.page.Perm.{Perm}
 use Rattle.ak_core.specs.declared.page.Perm.TheVariants.{R, Rw, Rx}
 use Rattle.ak_model.specs.Paging.Pages.{pages, all_pages, flags_for}
 use Rattle.ak_model.specs.Paging.Holdings.{Mapping}
-use Rattle.ak_model.specs.Paging.Build.{entry_at_build, program_entry}
+use Rattle.ak_model.specs.Paging.Build.{entry_at_build}
 use Rattle.ak_pte.specs.Table.{unmapped, pte_at}
 use Rattle.ak_pte.specs.declared.table.Pte.{Pte}
 use Rattle.ak_walk.specs.Mappings.{mapping_of}
@@ -38,14 +37,14 @@ mapped_to f perm = record { frame = f; flags = flags_for perm }
 
 module _ (layout : Layout) where
   -- no page of the program is mapped
-  pub maps_none : (table : List Pte) (count : ℕ) → layout.build ≡ Build.Sealed → count ≡ all_pages layout → table ≡ replicate count unmapped → MapsFirst layout table (pages layout)
-  maps_none table count sealed all is = record {
+  pub maps_none : (table : List Pte) (count : ℕ) → count ≡ all_pages layout → table ≡ replicate count unmapped → MapsFirst layout table (pages layout)
+  maps_none table count all is = record {
     sized = ap length is ∙ length-replicate {A = Pte} count unmapped ∙ all;
     mapped = λ p. ap (λ t. mapping_of (pte_at t p)) is ∙ ap mapping_of (all_unmapped count p) ∙ by p (nat_lt p (pages layout)) refl;
   }
     where
       by : (p : ℕ) (b : Bool) → nat_lt p (pages layout) ≡ b → mapping_of unmapped ≡ (if b then entry_at_build layout p else mapping_of unmapped)
-      by p true t = sym (rw t (ap (λ h. program_entry h layout p) sealed))
+      by p true t = rw t refl
       by p false t = refl
 
   -- the entry of a page of the runtime

@@ -17,16 +17,15 @@ use Rattle.ak_model.specs.Paging.Handles.{live, slot}
 use Rattle.ak_model.specs.Paging.Holdings.{SecsFrame, VaFrame, PageFrame, FreeFrame}
 use Rattle.ak_sealed.specs.SealedPages.{sealed_page_of, version}
 use Rattle.ak_image.specs.Built.{pages_of, page_bytes}
-use Rattle.ak_image.specs.Image.{Image}
+use Rattle.ak_image.specs.Image.{Image, layout_of}
 use Rattle.ak_relation.specs.State.Tables.{SealedPageAgrees, IsSealedPageOf}
 use Rattle.ak_encls.specs.Building.{added_entry}
 use Rattle.ak_build.specs.Adding.{program_sealed, sealed_so_far}
-use Rattle.ak_build.specs.Built.{sealed_layout}
 use Rattle.ak_build.proofs.Entries.{writes, executes}
 
 module _ (image : Image) (frames lps : ℕ) (whole : (p : ℕ) → p < pages_of image → length (page_bytes image p) ≡ 4096) where
   abbrev layout : Layout
-  layout = sealed_layout image frames lps
+  layout = layout_of image frames lps
 
   -- a page of the program, with its permission
   sealed_is : (p : ℕ) (perm : Perm) → p < pages_of image → slice_get image.perms p ≡ Some perm →

@@ -19,7 +19,7 @@ use Rattle.ak_sealed.specs.SealedPages.{sealed_page_at, sealed_page_of}
 use Rattle.ak_track.specs.Steps.{Cycled}
 use Rattle.ak_track.specs.Tracking.{HoldsSteps}
 use Rattle.ak_image.specs.Built.{pages_of, page_bytes}
-use Rattle.ak_image.specs.Image.{Image, IsWhole}
+use Rattle.ak_image.specs.Image.{Image, IsWhole, layout_of}
 use Rattle.ak_image.proofs.BuiltPages.{page_bytes-program}
 use Rattle.ak_relation.specs.Premises.Built.{IsBuilt}
 use Rattle.ak_relation.specs.State.MachineState.{Processor, State}
@@ -31,7 +31,7 @@ use Rattle.ak_encls.specs.Enclave.{Enclave, frame_at}
 use Rattle.ak_encls.specs.Paging.{IsPaging}
 use Rattle.ak_encls.proofs.Alone.{nobody}
 use Rattle.ak_build.specs.Adding.{entry_so_far, program_sealed, HasBytes, HasAdded}
-use Rattle.ak_build.specs.Built.{sealed_layout, AreOutside, BuiltAs, HoldsPages}
+use Rattle.ak_build.specs.Built.{AreOutside, BuiltAs, HoldsPages}
 use Rattle.ak_build.specs.declared.building.Built.{Built}
 use Rattle.ak_build.specs.Mapping.{MapsEach}
 use Rattle.ak_build.specs.Runtime.{runtime_perm}
@@ -75,9 +75,9 @@ page_whole image whole p below = ap length (page_bytes-program image p below) �
     size = let all = whole.bytes in omega (arith, length-take 4096 (drop (4096 * p) image.bytes), length-drop (4096 * p) image.bytes)
 
 module _ (image : Image) (frames lps : ℕ) (encls : Enclave) (table : List Pte) (processors : ℕ → Processor)
-    (h : HasAdded image frames lps encls (pages_of image) 6) (m : MapsEach (sealed_layout image frames lps) table) (out : AreOutside processors) where
+    (h : HasAdded image frames lps encls (pages_of image) 6) (m : MapsEach (layout_of image frames lps) table) (out : AreOutside processors) where
   abbrev layout : Layout
-  layout = sealed_layout image frames lps
+  layout = layout_of image frames lps
 
   abbrev state : State
   state = state_of image encls table processors
@@ -109,7 +109,7 @@ module _ (image : Image) (frames lps : ℕ) (encls : Enclave) (table : List Pte)
 
     tables : TablesStand layout [] state
     tables = record {
-      entries = record { entry = λ f. subst (λ (e : Entry). EntryAgrees layout e (held_at_build layout f) None) (sym (h.entries f)) (entries_agree layout refl f) };
+      entries = record { entry = λ f. subst (λ (e : Entry). EntryAgrees layout e (held_at_build layout f) None) (sym (h.entries f)) (entries_agree layout f) };
       slots = record { versions = slots_stand image frames lps size state.frames h.slots };
       sealed_pages = record {
         sealed_page = λ k. subst (λ o. SealedPageAgrees layout o (live layout [] k) k) (sym (h.sealed k)) (sealed_agrees image frames lps size k);
@@ -137,7 +137,7 @@ module _ (image : Image) (frames lps : ℕ) (encls : Enclave) (table : List Pte)
 
 -- what was built is a machine, with any processors that are outside
 pub built_as : (image : Image) (frames lps : ℕ) (enclave : Built) → HasBytes image → HasAdded image frames lps enclave.encls (pages_of image) 6 →
-    MapsEach (sealed_layout image frames lps) enclave.table → (processors : ℕ → Processor) → AreOutside processors → BuiltAs (sealed_layout image frames lps) image.bytes enclave processors
+    MapsEach (layout_of image frames lps) enclave.table → (processors : ℕ → Processor) → AreOutside processors → BuiltAs (layout_of image frames lps) image.bytes enclave processors
 built_as image frames lps enclave bytes h m processors out = record {
   state = state_of image enclave.encls enclave.table processors;
   paging = is_paging image frames lps enclave.encls enclave.table processors h m out;

@@ -2,7 +2,6 @@
 -- Cycle".)
 use Rattle.std.specs.Prelude.{◌≡◌, ℕ, ◌+◌, ◌<◌, false, List, [], length, Some, slice_get}
 use Rattle.ak_core.specs.Layout.{Layout}
-use Rattle.ak_core.specs.declared.build.Build.{Build}
 use Rattle.ak_core.specs.declared.page.Perm.{Perm}
 use Rattle.ak_core.specs.declared.page.PageType.TheVariants.{Reg}
 use Rattle.ak_model.specs.Paging.Pages.{all_pages}
@@ -11,17 +10,13 @@ use Rattle.ak_walk.specs.Mappings.{mapping_of}
 use Rattle.ak_measure.specs.Absorbed.{HasAbsorbed}
 use Rattle.ak_sealed.specs.SealedPages.{sealed_page_at, sealed_page_of}
 use Rattle.ak_image.specs.Built.{pages_of, page_bytes, image_blocks}
-use Rattle.ak_image.specs.Image.{Image, layout_of}
+use Rattle.ak_image.specs.Image.{Image}
 use Rattle.ak_relation.specs.State.MachineState.{Processor, State}
 use Rattle.ak_relation.specs.Premises.Built.{IsBuilt}
 use Rattle.ak_encls.specs.Building.{added_entry}
 use Rattle.ak_encls.specs.Enclave.{Enclave, frame_at}
 use Rattle.ak_encls.specs.Paging.{IsPaging}
 use Rattle.ak_build.specs.declared.building.Built.{Built}
-
--- the layout of an image's enclave whose program pages are sealed
-abbrev pub sealed_layout : Image → ℕ → ℕ → Layout
-sealed_layout image frames lps = record (layout_of image frames lps) { build = Build.Sealed }
 
 -- each processor is outside, and has nothing cached
 pub record AreOutside (processors : ℕ → Processor) : Type 0 where

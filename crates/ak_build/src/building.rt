@@ -2,10 +2,11 @@
 ghost use Rattle.std.specs.Prelude.{◌≡◌, ◌↔◌, ◌≤◌, ℕ, true, false, Err, IfOk, OnOk, length};
 ghost use Rattle.ak_measure.specs.Signers.{knows, allows};
 ghost use Rattle.ak_image.specs.Built.{digest_of};
+ghost use Rattle.ak_image.specs.Image.{layout_of};
 ghost use Rattle.ak_relation.specs.State.MachineState.{Processor};
 ghost use Rattle.ak_build.specs.Adding.{HasAdded, HasBytes};
 ghost use Rattle.ak_build.specs.Mapping.{MapsEach};
-ghost use Rattle.ak_build.specs.Built.{sealed_layout, AreOutside, BuiltAs, HoldsPages};
+ghost use Rattle.ak_build.specs.Built.{AreOutside, BuiltAs, HoldsPages};
 
 use crate::adding::{add_runtime, begun, seal_program};
 use crate::mapping::built_table;
@@ -49,9 +50,9 @@ pub fn build(
     ensures unknown { (result ≡ Err BuildFault.UnknownSigner) ↔ (knows signers.now image.now.signer ≡ false) }
     ensures unsigned { (result ≡ Err BuildFault.MeasurementNotSigned)
         ↔ ((knows signers.now image.now.signer ≡ true) × (allows signers.now image.now.signer (digest_of image.now) ≡ false)) }
-    ensures layout { IfOk result (λ b. b.layout ≡ sealed_layout image.now frames lps) }
+    ensures layout { IfOk result (λ b. b.layout ≡ layout_of image.now frames lps) }
     ensures built { IfOk result (λ b. (processors : ℕ → Processor) → AreOutside processors
-        → BuiltAs (sealed_layout image.now frames lps) image.now.bytes b processors) }
+        → BuiltAs (layout_of image.now frames lps) image.now.bytes b processors) }
     ensures pages { IfOk result (λ b. HoldsPages image.now b.encls) }
 {
     let Ok(built) = of_image(alloc, image, frames, lps) else {
@@ -70,12 +71,12 @@ fn of_image(alloc: Global, image: &Image, frames: u32, lps: u8) -> Result<Built,
     requires few_frames { frames ≤ 8192 }
     requires some_lp { 1 ≤ lps }
     requires few_lps { lps ≤ 4 }
-    ensures layout { IfOk result (λ b. b.layout ≡ sealed_layout image.now frames lps) }
+    ensures layout { IfOk result (λ b. b.layout ≡ layout_of image.now frames lps) }
     ensures added { IfOk result (λ b. HasAdded image.now frames lps b.encls (length image.now.perms) 6) }
-    ensures mapped { IfOk result (λ b. MapsEach (sealed_layout image.now frames lps) b.table) }
+    ensures mapped { IfOk result (λ b. MapsEach (layout_of image.now frames lps) b.table) }
     ensures bytes { OnOk result (HasBytes image.now) }
 {
-    let layout = image.layout(alloc, frames, lps)?.sealed();
+    let layout = image.layout(alloc, frames, lps)?;
     let mut encls = begun(alloc, image, frames, lps)?;
     let table = built_table(alloc, &layout)?;
     seal_program(&mut encls, &layout, image);

@@ -1,6 +1,5 @@
 // The page table at the end of the build.
 ghost use Rattle.std.specs.Prelude.{◌≡◌, ◌<◌, ◌+◌, IfOk};
-ghost use Rattle.ak_core.specs.declared.build.Build.{Build as HowBuilt};
 ghost use Rattle.ak_model.specs.Paging.Pages.{flags_for, pages};
 ghost use Rattle.ak_walk.specs.Mappings.{mapping_of};
 ghost use Rattle.ak_build.specs.Mapping.{MapsEach, MapsFirst};
@@ -15,7 +14,6 @@ use std::alloc::Global;
 
 /// The page table: each page of the runtime is mapped to its frame, and no page of the program is mapped.
 pub(crate) fn built_table(alloc: Global, layout: &Layout) -> Result<PageTable, OutOfMemory>
-    requires { layout.now.build ≡ HowBuilt.Sealed }
     ensures { IfOk result (λ table. MapsEach layout.now table) }
 {
     let pages = layout.perms().len() as u32;

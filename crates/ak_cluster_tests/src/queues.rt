@@ -3,7 +3,7 @@ ghost use Rattle.std.specs.Prelude.{◌≡◌, [], length, replicate};
 ghost use Rattle.ak_cluster.specs.QueueBytes.{HasSomeQueue, IsQueue, with_queue};
 
 use ak_cluster::Policy;
-use ak_core::{Build, Layout, OutOfMemory, PAGE_SIZE, Perm};
+use ak_core::{Layout, OutOfMemory, PAGE_SIZE, Perm};
 use std::alloc::Global;
 use std::test::Fail;
 
@@ -16,7 +16,7 @@ fn layout(alloc: Global) -> Result<Layout, OutOfMemory> {
     let Ok(cluster_of) = vec![in alloc; 0, 0, 1, 2, 2, 2, 3, 4, 4, 5] else {
         return Err(OutOfMemory);
     };
-    Ok(Layout::new(65536, 0, perms, cluster_of, 6, 8, 9, 1, Build::Sealed))
+    Ok(Layout::new(65536, 0, perms, cluster_of, 6, 8, 9, 1))
 }
 
 // The queue of STATE as the build makes it.

@@ -1,12 +1,10 @@
 -- What contracts see of a layout: everything about an enclave that the kernel may know.
 use Rattle.std.specs.Prelude.{◌≡◌, ℕ, zero, suc, ◌+◌, ◌*◌, ◌%◌, ◌^◌, ◌≤◌, ◌<◌, List, [], ◌∷◌, length, map, take, sum, count_by, Option, Some, None, nat_lt, nat_le, ◌==◌, if◌then◌else◌}
 use Rattle.std.specs.List.{range_with_len}
-use Rattle.ak_core.specs.declared.build.Build.{Build}
 use Rattle.ak_core.specs.declared.page.Perm.{Perm}
 
 -- an enclave's base, the offset of its first instruction, the permission and the cluster of each program page,
--- how many clusters there are, how many program pages may be in at once, the machine's frames and processors, and how the
--- build leaves the program's pages
+-- how many clusters there are, how many program pages may be in at once, and the machine's frames and processors
 pub record Layout : Type 0 where
   pub base : ℕ
   pub entry : ℕ
@@ -16,7 +14,6 @@ pub record Layout : Type 0 where
   pub budget : ℕ
   pub frames : ℕ
   pub lps : ℕ
-  pub build : Build  -- temporary
 
 -- ---- What holds of every layout
 

@@ -3,7 +3,7 @@ ghost use Rattle.std.specs.Prelude.{◌≡◌};
 ghost use Rattle.ak_core.specs.Layout;
 ghost use Rattle.ak_core.specs.Layout.{IsValid};
 
-use crate::{Build, Perm};
+use crate::Perm;
 use std::marker::Model;
 
 /// An enclave's pages, clusters and limits, without any byte of a page.
@@ -20,7 +20,6 @@ pub struct Layout {
     budget: u32,
     frames: u32,
     lps: u8,
-    build: Build,
 }
 
 impl Model for Layout {
@@ -35,7 +34,6 @@ impl Model for Layout {
       budget = l.budget;
       frames = l.frames;
       lps = l.lps;
-      build = l.build;
     } };
 
     ghost invariant = { λ l. IsValid (record {
@@ -47,7 +45,6 @@ impl Model for Layout {
       budget = l.budget;
       frames = l.frames;
       lps = l.lps;
-      build = l.build;
     }) };
 }
 
@@ -62,7 +59,6 @@ impl Layout {
         budget: u32,
         frames: u32,
         lps: u8,
-        build: Build,
     ) -> Layout
         requires { IsValid (record {
           base = base;
@@ -73,7 +69,6 @@ impl Layout {
           budget = budget;
           frames = frames;
           lps = lps;
-          build = build;
         }) }
         ensures base { result.base ≡ base }
         ensures entry { result.entry ≡ entry }
@@ -83,7 +78,6 @@ impl Layout {
         ensures budget { result.budget ≡ budget }
         ensures frames { result.frames ≡ frames }
         ensures lps { result.lps ≡ lps }
-        ensures build { result.build ≡ build }
     {
         Layout {
             base,
@@ -94,7 +88,6 @@ impl Layout {
             budget,
             frames,
             lps,
-            build,
         }
     }
 
@@ -154,20 +147,5 @@ impl Layout {
         ensures { result ≡ self.now.lps }
     {
         self.lps
-    }
-
-    /// How the build leaves the program's pages.
-    pub fn build(&self) -> Build
-        ensures { result ≡ self.now.build }
-    {
-        self.build
-    }
-
-    /// The same layout of a sealed build. It is temporary: only such builds will stay.
-    pub fn sealed(mut self) -> Layout
-        ensures { result ≡ record self { build = Build.Sealed } }
-    {
-        self.build = Build::Sealed;
-        self
     }
 }

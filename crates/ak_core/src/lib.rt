@@ -2,7 +2,6 @@
 //! instructions; what contracts see of layouts and journals; and memory as a turn sees it.
 #![tactic(auto)]
 
-mod build;
 mod event;
 mod failure;
 mod instruction;
@@ -14,7 +13,6 @@ mod page;
 mod registers;
 mod runtime_pages;
 
-pub use build::Build;
 pub use event::{Event, Stop, StopCause};
 pub use failure::{BuildFault, OutOfMemory};
 pub use instruction::{Cond, Decoded, Instr};

@@ -11,7 +11,7 @@ pub const RUNTIME_PAGES: u32 = SSA_AREAS + 3;
 /// The frame of the runtime's first page at the build. Before it are those of the SECS and of a VA page.
 pub const RUNTIME_FRAME: u32 = 2;
 
-/// The frame after those of the runtime's pages. From it on a resident build has the program's pages.
+/// The frame after those of the runtime's pages: the first that is free at the build.
 pub const PROGRAM_FRAME: u32 = RUNTIME_FRAME + RUNTIME_PAGES;
 
 /// The TCS page.

@@ -3,3 +3,6 @@ pub mod KeptMapped
 pub mod KeptOut
 pub mod KeptFetched
 pub mod RulesKept
+pub mod LastBreak
+pub mod BreakStays
+pub mod HonestJournals

@@ -1,2 +1,3 @@
 -- Cases that are computed from the definitions.
 pub mod WorkedRun
+pub mod WorkedJournal

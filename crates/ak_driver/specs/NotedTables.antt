@@ -2,11 +2,8 @@
 use Rattle.std.specs.Prelude.{◌≡◌, ℕ, Bool, ◌+◌, ◌<◌, ◌≤◌, List, [], length, Option, Some, None, option_map, slice_index_or, slice_set}
 use Rattle.std.specs.Bool.{then_some}
 use Rattle.ak_core.specs.Layout.{Layout}
-use Rattle.ak_core.specs.declared.build.Build.{Build}
-use Rattle.ak_core.specs.declared.build.Build.TheVariants.{Resident, Sealed as SealedBuild}
 use Rattle.ak_core.specs.declared.page.Frame.{Frame}
-use Rattle.ak_core.specs.declared.page.Perm.{Perm}
-use Rattle.ak_model.specs.Paging.Pages.{pages, flags_for, no_flags}
+use Rattle.ak_model.specs.Paging.Pages.{pages, no_flags}
 use Rattle.ak_model.specs.Paging.Histories
 use Rattle.ak_model.specs.Paging.Histories.{History}
 use Rattle.ak_model.specs.Paging.Holdings
@@ -162,13 +159,8 @@ pub record AreFramesAtBuild (notes : List FrameNote) (layout : Layout) : Type 0 
   pub blocked_is : (f : ℕ) → (frame_note notes f).blocked ≡ None
 
 -- what is known of a page at the build
-abbrev pub facts_at_build : Build → Perm → ℕ → PageFacts
-facts_at_build Resident perm p = record {
-  frame = Some (8 + p);
-  entry = record { frame = 8 + p; flags = flags_for perm };
-  copy = record { handle = p; va = 1; slot = p };
-}
-facts_at_build SealedBuild perm p = record {
+abbrev pub facts_at_build : ℕ → PageFacts
+facts_at_build p = record {
   frame = None;
   entry = record { frame = 0; flags = no_flags };
   copy = record { handle = p; va = 1; slot = p };

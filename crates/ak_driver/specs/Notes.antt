@@ -23,7 +23,7 @@ pub record Notes (driver : Driver) (layout : Layout) (past : History) : Type 0 w
   pub tables_are : HasTables driver.tables layout past
   pub cycles_are : HasCycles driver.tracking layout past
   pub counts_are : HasCounts driver.counts past
-  pub requests_are : AreRequests (request_note driver.requests) (service layout past)
+  pub requests_are : AreRequests (request_note driver.requests) (service past)
   pub refused_is : (m : Move) → refuses driver.refused m ≡ was_refused past m
 
 -- the change may come next: the frame or the processor that it names is one of the layout, no more than 512 clusters are in
@@ -31,4 +31,4 @@ pub record Notes (driver : Driver) (layout : Layout) (past : History) : Type 0 w
 pub record IsPlausible (layout : Layout) (past : History) (next : Change) : Type 0 where
   pub few : length past < 2 ^ 31
   pub there : IsThere layout next
-  pub room : length (service_after next (service layout past)).queue ≤ 512
+  pub room : length (service_after next (service past)).queue ≤ 512

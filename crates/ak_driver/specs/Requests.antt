@@ -23,7 +23,7 @@ is_run _ = false
 
 -- the pages of the d clusters that are the next to leave, as the kernel counts after these moves
 abbrev pub pages_dropped : Layout → List Event → List Move → ℕ → ℕ
-pages_dropped layout tape moves d = length (flat_map (pages_of layout) (take d (service layout (trace layout tape moves).past).queue))
+pages_dropped layout tape moves d = length (flat_map (pages_of layout) (take d (service (trace layout tape moves).past).queue))
 
 -- the pages of a cluster
 abbrev pub pages_fetched : Layout → ℕ → ℕ

@@ -45,7 +45,7 @@ impl Driver {
             tables,
             tracking: Tracking::new(),
             counts: Counts::new(),
-            requests: Requests::new(layout),
+            requests: Requests::new(),
             place: 0,
             refused: None,
         })

@@ -5,7 +5,7 @@ ghost use Rattle.ak_core.specs.declared.moves.Answer.{Answer};
 ghost use Rattle.ak_core.specs.declared.moves.Exit.TheVariants.{Ready};
 ghost use Rattle.ak_core.specs.declared.moves.Move.{Move};
 ghost use Rattle.ak_driver.specs.EndingExits.{last_is_result};
-ghost use Rattle.ak_driver.specs.HonestRuns.{IsHonestRun};
+ghost use Rattle.ak_driver.specs.HonestRuns.{IsHonestJournal, IsHonestRun};
 ghost use Rattle.ak_driver.specs.Notes.{IsPlausible};
 ghost use Rattle.ak_driver.specs.Requests.{IsAsked, answer_after, is_run, pages_dropped, pages_fetched};
 ghost use Rattle.ak_model.specs.Control.Trace.{trace};
@@ -13,12 +13,14 @@ ghost use Rattle.ak_model.specs.Kernels.Evictions.{Evicts};
 ghost use Rattle.ak_model.specs.Kernels.HonestKernel.{drive};
 ghost use Rattle.ak_model.specs.Kernels.KernelRules.{Honours};
 ghost use Rattle.ak_model.specs.Kernels.Repeats.{is_done};
+ghost use Rattle.ak_model.specs.Laws.IdealMisses.{MissesAreIdeal};
 ghost use Rattle.ak_model.specs.Laws.Premises.{MissesFit};
-ghost use Rattle.ak_model.specs.Paging.Build.{queue_at_build};
 ghost use Rattle.ak_model.specs.Paging.Histories.{change};
-ghost use Rattle.ak_model.specs.Stops.ShownStop.{shows_stop};
+ghost use Rattle.ak_model.specs.Stops.ShownStop.{has_break, shows_stop};
+ghost use Rattle.ak_model.specs.Tapes.LastMoment.{last_moment};
 ghost use Rattle.std.specs.List.{list_all};
-ghost use Rattle.std.specs.Prelude.{List, None, false, length, true, ℕ, ◌*◌, ◌+◌, ◌^◌, ◌<◌, ◌++◌, ◌∷◌, ◌≡◌, ◌≤◌};
+ghost use Rattle.std.specs.Prelude.{List, None, [], false, length, reverse, true, ℕ, ◌*◌, ◌+◌, ◌^◌, ◌<◌, ◌++◌, ◌∷◌, ◌≡◌, ◌≤◌};
+ghost use Rattle.ak_core.specs.Journal;
 ghost use Rattle.ak_core.specs.Layout;
 
 /// The honest kernel keeps the rules of a well-behaved kernel, and it evicts.
@@ -52,10 +54,29 @@ pub fn asks_are_served()
         → answer_after layout tape (since ++ ask ∷ before) m ≡ Answer.Exit Ready }
 {}
 
+/// A sound journal of the honest kernel, on a roomy machine, is one of an honest run: its program never breaks, so that the laws above
+/// hold of it. It has no stop, each miss is one that the program's own accesses force, each move is done, and the kernel has no next
+/// move only where the program ended or was trapped.
+pub fn honest_journals_never_stop()
+    ensures unbroken { (image : List ℕ) (layout : Layout.Layout) (journal : Journal.Journal) (inputs : List ℕ)
+        → IsHonestJournal image layout journal inputs → has_break journal.events ≡ false }
+    ensures run { (image : List ℕ) (layout : Layout.Layout) (journal : Journal.Journal) (inputs : List ℕ)
+        → IsHonestJournal image layout journal inputs → IsHonestRun layout journal.events inputs (reverse journal.moves) }
+    ensures unstopped { (image : List ℕ) (layout : Layout.Layout) (journal : Journal.Journal) (inputs : List ℕ)
+        → IsHonestJournal image layout journal inputs → journal.stop ≡ None }
+    ensures ideal { (image : List ℕ) (layout : Layout.Layout) (journal : Journal.Journal) (inputs : List ℕ)
+        → IsHonestJournal image layout journal inputs → MissesAreIdeal image layout journal }
+    ensures done { (image : List ℕ) (layout : Layout.Layout) (journal : Journal.Journal) (inputs : List ℕ)
+        → IsHonestJournal image layout journal inputs → list_all is_done journal.answers ≡ true }
+    ensures ends { (image : List ℕ) (layout : Layout.Layout) (journal : Journal.Journal) (inputs : List ℕ)
+        → IsHonestJournal image layout journal inputs → drive layout (last_moment layout journal).past inputs ≡ None
+        → last_is_result (last_moment layout journal).past ≡ true }
+{}
+
 /// What a trace tells may be told: each move, with its answer, may come next after the moves before it, whatever the kernel does,
 /// as long as each miss on the tape is of a cluster that is out.
 pub fn traced_moves_are_plausible()
     ensures { (layout : Layout.Layout) (tape : List Event) (moves : List Move) (m : Move) → IsValid layout
-        → MissesFit layout (queue_at_build layout.build layout) tape → length moves < 2 ^ 31
+        → MissesFit layout [] tape → length moves < 2 ^ 31
         → IsPlausible layout (trace layout tape moves).past (change m (answer_after layout tape moves m)) }
 {}

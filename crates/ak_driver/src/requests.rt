@@ -1,14 +1,11 @@
 // The clusters that are in, and the request that is open.
 ghost use Rattle.std.specs.Prelude.{◌≡◌, ◌≤◌, [], length, drop, take};
-ghost use Rattle.std.specs.List.{range_with_len};
-ghost use Rattle.ak_core.specs.Layout.{IsValid};
 ghost use Rattle.ak_core.specs.declared.moves.Exit.TheVariants.{Ask, Ready};
 ghost use Rattle.ak_model.specs.Kernels.Counted.{service};
-ghost use Rattle.ak_model.specs.Paging.Build.{queue_at_build};
 ghost use Rattle.ak_driver.specs.NotedRequests.{AreRequests, clusters_in, note_after, note_by, request_note};
 
 use crate::changes::Change;
-use ak_core::{Build, Exit, Layout};
+use ak_core::Exit;
 use arrayvec::ArrayVec;
 
 /// The most clusters that an enclave has.
@@ -24,13 +21,12 @@ pub(crate) struct Requests {
 }
 
 impl Requests {
-    /// As the build leaves them.
-    pub fn new(layout: &Layout) -> Requests
-        requires { IsValid layout.now }
-        ensures { AreRequests (request_note result) (service layout.now []) }
+    /// As the build leaves them: no cluster is in, and none is asked for.
+    pub fn new() -> Requests
+        ensures { AreRequests (request_note result) (service []) }
     {
         Requests {
-            clusters: clusters_at_build(layout),
+            clusters: ArrayVec::new(),
             dropped: 0,
             asked: None,
         }
@@ -97,27 +93,4 @@ impl Requests {
         }
         self.dropped = 0;
     }
-}
-
-// The clusters that are in at the build.
-fn clusters_at_build(layout: &Layout) -> ArrayVec<u32, MAX_CLUSTERS>
-    requires { IsValid layout.now }
-    ensures { result.items ≡ queue_at_build layout.now.build layout.now }
-{
-    match layout.build() {
-        Build::Resident => first_clusters(layout.clusters()),
-        Build::Sealed => ArrayVec::new(),
-    }
-}
-
-// The first so many clusters.
-fn first_clusters(count: u32) -> ArrayVec<u32, MAX_CLUSTERS>
-    requires { count ≤ 512 }
-    ensures { result.items ≡ range_with_len 0 count }
-{
-    let mut clusters = ArrayVec::new();
-    for c in 0..count {
-        clusters.push(c);
-    }
-    clusters
 }

@@ -10,7 +10,9 @@ ghost use Rattle.ak_model.specs.Paging.Pages.{flags_for, pages};
 ghost use Rattle.ak_driver.specs.NotedTables.{AreFramesAtBuild, ArePagesAtBuild, HasTables, facts_at_build, frame_note, frame_number, frames_after, free_note, holding, is_free_note, noted, page_note, pages_after, removed, written_out};
 
 use crate::changes::Change;
-use ak_core::{Build, Flags, Frame, Handle, Layout, OutOfMemory, PROGRAM_FRAME, Page, Perm};
+use ak_core::{
+    Flags, Frame, Handle, Layout, OutOfMemory, PROGRAM_FRAME, Page, Perm, RUNTIME_FRAME,
+};
 use std::alloc::Global;
 
 /// What a frame holds.
@@ -281,17 +283,17 @@ fn is_free(held: Held) -> bool
     matches!(held, Held::Free)
 }
 
-// The frames as the build leaves them: each of the layout, and each that holds a page.
+// The frames as the build leaves them: each of the layout.
 fn frames_at_build(alloc: Global, layout: &Layout) -> Result<Vec<FrameNote>, OutOfMemory>
     ensures frames { IfOk result (λ frames. AreFramesAtBuild frames.items layout.now) }
     ensures valid { IsValid layout.now }
 {
     let pages = layout.perms().len() as u32;
-    let count = layout.frames().max(PROGRAM_FRAME + pages);
+    let count = layout.frames();
     let mut frames = Vec::new(alloc);
     for f in 0..count {
         let note = FrameNote {
-            held: held_at_build(layout.build(), pages, f),
+            held: held_at_build(pages, f),
             blocked: None,
         };
         let Ok(()) = frames.push(note) else {
@@ -301,22 +303,15 @@ fn frames_at_build(alloc: Global, layout: &Layout) -> Result<Vec<FrameNote>, Out
     Ok(frames)
 }
 
-// What a frame holds at the build: the SECS, a VA page, the runtime's pages, and those of the program where they are resident.
-fn held_at_build(build: Build, count: u32, f: u32) -> Held
+// What a frame holds at the build: the SECS, a VA page or a page of the runtime.
+fn held_at_build(count: u32, f: u32) -> Held
     requires { count ≤ 512 }
-    ensures { (layout : Pages) → build ≡ layout.build → count ≡ pages layout → holding result ≡ held_at_build layout f }
+    ensures { (layout : Pages) → count ≡ pages layout → holding result ≡ held_at_build layout f }
 {
-    if f == 0 {
-        return Held::Secs;
-    }
-    if f == 1 {
-        return Held::Va;
-    }
-    if f < PROGRAM_FRAME {
-        return Held::Page(Page(count + (f - 2)));
-    }
-    match build {
-        Build::Resident if f < PROGRAM_FRAME + count => Held::Page(Page(f - PROGRAM_FRAME)),
+    match f {
+        0 => Held::Secs,
+        1 => Held::Va,
+        _ if f < PROGRAM_FRAME => Held::Page(Page(count + (f - RUNTIME_FRAME))),
         _ => Held::Free,
     }
 }
@@ -326,38 +321,27 @@ fn pages_at_build(alloc: Global, layout: &Layout) -> Result<Vec<PageNote>, OutOf
     ensures { IfOk result (λ notes. ArePagesAtBuild notes.items layout.now) }
 {
     let mut notes = Vec::new(alloc);
-    for (i, perm) in layout.perms().iter().enumerate() {
-        let note = page_at_build(layout.build(), i, *perm);
-        let Ok(()) = notes.push(note) else {
+    for i in 0..layout.perms().len() {
+        let Ok(()) = notes.push(page_at_build(i)) else {
             return Err(OutOfMemory);
         };
     }
     Ok(notes)
 }
 
-// A page as the build leaves it: in a frame and mapped, or sealed under the handle of its own number.
-fn page_at_build(build: Build, p: usize, perm: Perm) -> PageNote
+// A page as the build leaves it: not mapped, and sealed under the handle of its own number.
+fn page_at_build(p: usize) -> PageNote
     requires { p < 512 }
-    ensures { noted result ≡ facts_at_build build perm p }
+    ensures { noted result ≡ facts_at_build p }
 {
-    let frame = Frame(PROGRAM_FRAME + p as u32);
-    let copy = SealedCopy {
-        handle: Handle(p as u32),
-        va: Frame(1),
-        slot: p as u16,
-    };
-    match build {
-        Build::Resident => PageNote {
-            frame: Some(frame),
-            mapped: frame,
-            flags: strong_flags(perm),
-            copy,
-        },
-        Build::Sealed => PageNote {
-            frame: None,
-            mapped: Frame(0),
-            flags: NO_FLAGS,
-            copy,
+    PageNote {
+        frame: None,
+        mapped: Frame(0),
+        flags: NO_FLAGS,
+        copy: SealedCopy {
+            handle: Handle(p as u32),
+            va: Frame(1),
+            slot: p as u16,
         },
     }
 }

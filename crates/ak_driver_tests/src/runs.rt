@@ -1,7 +1,5 @@
 // Runs of the honest kernel: the moves that it gives, where each is answered as here.
-use ak_core::{
-    Answer, Build, Exit, Flags, Frame, Handle, Layout, Lp, Move, OutOfMemory, Page, Perm,
-};
+use ak_core::{Answer, Exit, Flags, Frame, Handle, Layout, Lp, Move, OutOfMemory, Page, Perm};
 use ak_driver::Driver;
 use std::alloc::Global;
 use std::test::Fail;
@@ -84,7 +82,7 @@ fn one_page(alloc: Global) -> Result<Layout, OutOfMemory> {
     let Ok(cluster_of) = vec![in alloc; 0] else {
         return Err(OutOfMemory);
     };
-    Ok(Layout::new(65536, 0, perms, cluster_of, 1, 1, 9, 1, Build::Sealed))
+    Ok(Layout::new(65536, 0, perms, cluster_of, 1, 1, 9, 1))
 }
 
 // Five clusters of one page, of which four may be in.
@@ -96,7 +94,7 @@ fn five_pages(alloc: Global) -> Result<Layout, OutOfMemory> {
     let Ok(cluster_of) = vec![in alloc; 0, 1, 2, 3, 4] else {
         return Err(OutOfMemory);
     };
-    Ok(Layout::new(65536, 0, perms, cluster_of, 5, 4, 12, 1, Build::Sealed))
+    Ok(Layout::new(65536, 0, perms, cluster_of, 5, 4, 12, 1))
 }
 
 // Two clusters of two pages, which differ in what they allow.
@@ -108,7 +106,7 @@ fn two_pages_each(alloc: Global) -> Result<Layout, OutOfMemory> {
     let Ok(cluster_of) = vec![in alloc; 0, 1, 1, 0] else {
         return Err(OutOfMemory);
     };
-    Ok(Layout::new(65536, 0, perms, cluster_of, 2, 4, 12, 2, Build::Sealed))
+    Ok(Layout::new(65536, 0, perms, cluster_of, 2, 4, 12, 2))
 }
 
 // The first move that is another than this, by its number.

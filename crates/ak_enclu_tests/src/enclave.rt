@@ -7,9 +7,7 @@ ghost use Rattle.ak_enclu.specs.Passing.{HasFewSaved};
 ghost use Rattle.ak_enclu.specs.TcsBytes.{saved_of};
 
 use crate::frames::{tcs_bytes, unused_area};
-use ak_core::{
-    Answer, Build, Flags, Frame, Kind, Layout, Lp, PAGE_SIZE, Page, PageType, Perm, SSA_AREAS,
-};
+use ak_core::{Answer, Flags, Frame, Kind, Layout, Lp, PAGE_SIZE, Page, PageType, Perm, SSA_AREAS};
 use ak_encls::Encls;
 use ak_enclu::{Cpu, aex, eenter, eexit, eresume};
 use ak_pte::{PageTable, Pte};
@@ -222,7 +220,7 @@ fn add(
 fn layout(alloc: Global) -> Result<Layout, Fail> {
     let perms = [Perm::Rw; 3].to_vec(alloc)?;
     let cluster_of = [0, 0, 1].to_vec(alloc)?;
-    Ok(Layout::new(BASE, 0, perms, cluster_of, 2, 8, 10, 2, Build::Sealed))
+    Ok(Layout::new(BASE, 0, perms, cluster_of, 2, 8, 10, 2))
 }
 
 // The enclave, with pages of these types and permissions as TCS and areas.

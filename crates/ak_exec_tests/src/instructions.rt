@@ -3,7 +3,7 @@ ghost use Rattle.std.specs.Prelude.{◌≡◌, IfOk};
 ghost use Rattle.ak_core.specs.declared.registers.Mode.TheVariants.{Program};
 
 use crate::four_pages::FourPages;
-use ak_core::{Build, Fault, Kind, Layout, Mode, Page, Perm, Regs};
+use ak_core::{Fault, Kind, Layout, Mode, Page, Perm, Regs};
 use ak_exec::{Turn, exec};
 use std::test::Fail;
 
@@ -14,7 +14,7 @@ const BASE: u64 = 0x10000;
 fn four_pages(rt: &HostRuntime) -> Result<Layout, Fail> {
     let perms = [Perm::Rx, Perm::Rx, Perm::Rw, Perm::Rw].to_vec(rt.alloc())?;
     let cluster_of = [0, 0, 0, 0].to_vec(rt.alloc())?;
-    Ok(Layout::new(BASE, 0, perms, cluster_of, 1, 4, 16, 1, Build::Resident))
+    Ok(Layout::new(BASE, 0, perms, cluster_of, 1, 4, 16, 1))
 }
 
 /// Registers of the program: RBX points into page 2, and RSP into page 3.

@@ -1,7 +1,6 @@
 -- What contracts see of an image, and what holds of every image.
-use Rattle.std.specs.Prelude.{◌≡◌, ℕ, ◌*◌, List, length}
-use Rattle.ak_core.specs.Layout.{Layout, IsValid}
-use Rattle.ak_core.specs.declared.build.Build.{Build}
+use Rattle.std.specs.Prelude.{◌≡◌, ℕ, ◌*◌, List, length, unwrap_or}
+use Rattle.ak_core.specs.Layout.{Layout, IsValid, numbers_from}
 use Rattle.ak_core.specs.declared.page.Perm.{Perm}
 
 -- an enclave's base, the offset of its first instruction, the permission and the cluster of each program page, how many
@@ -16,6 +15,19 @@ pub record Image : Type 0 where
   pub signer : List ℕ
   pub bytes : List ℕ
 
+-- the image with these parts, whose clusters are as many as the numbers of its pages' clusters
+abbrev pub from_parts : ℕ → ℕ → ℕ → List ℕ → List Perm → List ℕ → List ℕ → Image
+from_parts base entry budget signer perms cluster_of bytes = record {
+  base = base;
+  entry = entry;
+  perms = perms;
+  cluster_of = cluster_of;
+  clusters = unwrap_or (numbers_from cluster_of 0) 0;
+  budget = budget;
+  signer = signer;
+  bytes = bytes;
+}
+
 -- the layout of the image's enclave on a machine with so many frames and processors
 abbrev pub layout_of : Image → ℕ → ℕ → Layout
 layout_of image frames lps = record {
@@ -27,7 +39,6 @@ layout_of image frames lps = record {
   budget = image.budget;
   frames = frames;
   lps = lps;
-  build = Build.Resident;
 }
 
 -- the layout is valid, on the smallest machine and so on each, and each page has its bytes

@@ -4,12 +4,12 @@ ghost use Rattle.ak_image.specs.Built.{page_bytes, secinfo_of, digest_of};
 ghost use Rattle.ak_image.specs.Image;
 ghost use Rattle.std.specs.List.{All};
 ghost use Rattle.ak_core.specs.Layout.{IsValid, enclave_size};
-ghost use Rattle.ak_image.specs.Image.{IsWhole, layout_of};
+ghost use Rattle.ak_image.specs.Image.{IsWhole, from_parts, layout_of};
 
 use crate::built::{TCS, copy_page, fill_code, fill_tcs, fill_zeros, regular};
 use crate::clusters::Clusters;
 use crate::numbers::enclave_size;
-use ak_core::{Build, Layout, OutOfMemory, PAGE_SIZE, Page, Perm, all_pages, code_page, tcs_page};
+use ak_core::{Layout, OutOfMemory, PAGE_SIZE, Page, Perm, all_pages, code_page, tcs_page};
 use ak_measure::Measure;
 use std::alloc::Global;
 use std::marker::Model;
@@ -100,6 +100,28 @@ impl Image {
         }
     }
 
+    /// The image with these parts: the permission and the cluster of each page, the clusters numbered from 0 by first appearance,
+    /// and the bytes of all pages, one page after the other. Memory is taken for the signer's name alone.
+    pub fn from_parts(
+        alloc: Global,
+        base: u64,
+        entry: u32,
+        budget: u32,
+        signer: &str,
+        perms: Vec<Perm>,
+        cluster_of: Vec<u32>,
+        bytes: Vec<u8>,
+    ) -> Result<Image, OutOfMemory>
+        requires { IsWhole (from_parts base entry budget signer.now perms.items cluster_of.items bytes.items) }
+        ensures { IfOk result (λ image. image ≡ from_parts base entry budget signer.now perms.items cluster_of.items bytes.items) }
+    {
+        let clusters = Clusters::of_numbers(cluster_of);
+        let Ok(signer) = String::from_str(alloc, signer) else {
+            return Err(OutOfMemory);
+        };
+        Ok(Image::new(base, entry, perms, clusters, budget, signer, bytes))
+    }
+
     /// How many pages the program has.
     pub fn pages(&self) -> u32
         ensures pages { result ≡ length self.now.perms }
@@ -154,7 +176,6 @@ impl Image {
             self.budget,
             frames,
             lps,
-            Build::Resident,
         ))
     }
 

@@ -13,3 +13,4 @@ pub mod ReadSigners
 pub mod SignerRows
 pub mod KnownNames
 pub mod BlockContents
+pub mod SingleSigner

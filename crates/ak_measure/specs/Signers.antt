@@ -31,6 +31,10 @@ each_named read named = each_of (λ e. option_map (λ y. (e.0, y)) (read e.1)) n
 abbrev pub Signed : Type 0
 Signed = Named (List (List ℕ))
 
+-- one signer, who signed one enclave
+abbrev pub single : List ℕ → List ℕ → Signed
+single name digest = (name, digest ∷ []) ∷ []
+
 -- the texts of an array of strings
 abbrev pub texts_of : Data → Option (List (List ℕ))
 texts_of (array items) = each_of as_str (listed items)

@@ -2,7 +2,7 @@
 ghost use Rattle.std.specs.Prelude.{◌≡◌, ◌+◌, ◌*◌, ◌^◌, ◌<◌, ◌++◌, ℕ, List, [], ◌∷◌, length, IsTrue, ◌↔◌, Contains};
 ghost use Rattle.std.specs.List.{AllByRecursion};
 ghost use Rattle.ak_measure.specs.Blocks.{page_blocks, blocks_of, IsWhole};
-ghost use Rattle.ak_measure.specs.Signers.{Signed, names_of, knows, allows, HasSigned, Ascend};
+ghost use Rattle.ak_measure.specs.Signers.{Signed, single, names_of, knows, allows, HasSigned, Ascend};
 
 /// The blocks of an enclave with one more page are those without it, and then those of the page.
 pub fn one_more_page()
@@ -32,4 +32,11 @@ pub fn membership()
         → IsTrue (knows signers name) ↔ Contains (names_of signers) name }
     ensures allowed { (signers : Signed) (name digest : List ℕ) → Ascend (names_of signers)
         → IsTrue (allows signers name digest) ↔ HasSigned signers name digest }
+{}
+
+/// Where there is a single signer, its name alone is known, and for it its one digest alone is allowed.
+pub fn single_signer()
+    ensures known { (name digest other : List ℕ) → IsTrue (knows (single name digest) other) ↔ (other ≡ name) }
+    ensures allowed { (name digest other signed : List ℕ)
+        → IsTrue (allows (single name digest) other signed) ↔ ((other ≡ name) × (signed ≡ digest)) }
 {}

@@ -11,6 +11,8 @@ mod signers;
 
 pub use document::read_document;
 pub use fault::{DocumentFault, SignersFault};
-pub use laws::{blocks_tell_the_enclave, bytes_of_blocks, membership, one_more_page};
+pub use laws::{
+    blocks_tell_the_enclave, bytes_of_blocks, membership, one_more_page, single_signer,
+};
 pub use measurement::{Measure, secinfo};
 pub use signers::Signers;

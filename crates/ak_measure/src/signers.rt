@@ -10,6 +10,7 @@ ghost use Rattle.ak_measure.specs.Collected.{digests_at, signer_at, named};
 use crate::digests::{all_are_arrays_of_digests, all_are_arrays_of_strings, digests_of};
 use crate::document::read_document;
 use crate::fault::{DocumentFault, SignersFault};
+use ak_core::OutOfMemory;
 use indexmap::IndexSet;
 use std::alloc::Global;
 use std::collections::BTreeMap;
@@ -34,7 +35,7 @@ impl Model for Signers {
 }
 
 impl Signers {
-    ghost use Rattle.ak_measure.specs.Signers.{signers_of, names_of, knows, allows, Ascend, IsReason, IsRefusedFor};
+    ghost use Rattle.ak_measure.specs.Signers.{signers_of, single, names_of, knows, allows, Ascend, IsReason, IsRefusedFor};
 
     /// Reads a signers file: a TOML document whose keys are the names, each with an array of strings of 64 hexadecimal
     /// digits, of which none spells the same digest as another of the same name.
@@ -59,6 +60,24 @@ impl Signers {
             Ok(digests) => Ok(Signers { digests }),
             Err(fault) => Err(fault),
         }
+    }
+
+    /// The one signer of this name, who signed this one digest.
+    pub fn single(alloc: Global, name: &str, digest: &[u8; 32]) -> Result<Signers, OutOfMemory>
+        ensures { IfOk result (λ signers. signers ≡ single name.now digest.now) }
+    {
+        let mut signed = IndexSet::new(alloc);
+        if signed.insert(*digest).is_err() {
+            return Err(OutOfMemory);
+        }
+        let Ok(name) = String::from_str(alloc, name) else {
+            return Err(OutOfMemory);
+        };
+        let mut digests = BTreeMap::new(alloc);
+        if add(&mut digests, name, signed).is_err() {
+            return Err(OutOfMemory);
+        }
+        Ok(Signers { digests })
     }
 
     /// Whether there is a signer of this name.

@@ -3,7 +3,7 @@ pub mod Samples
 pub mod Worked
 pub mod WorkedFlat
 pub mod ValidLayouts
-pub mod ResidentBuild
+mod BuiltEnclave
 pub mod ProgramTurns
 mod Tracking
 pub mod HonestKernel

@@ -6,9 +6,9 @@ use Rattle.ak_model.specs.Control.ControlState.{control_at_build}
 use Rattle.ak_model.specs.Flat.FlatRuns.{zeroed}
 use Rattle.ak_relation.proofs.Runs.BuiltStands.{built_stands}
 use Rattle.ak_relation.specs.State.MachineState.{Processor, State}
-use Rattle.ak_build.specs.Built.{AreOutside, BuiltAs, sealed_layout}
+use Rattle.ak_build.specs.Built.{AreOutside, BuiltAs}
 use Rattle.ak_build.specs.declared.building.Built.{Built}
-use Rattle.ak_image.specs.Image.{Image}
+use Rattle.ak_image.specs.Image.{Image, layout_of}
 use Rattle.ak_enclu.proofs.Changes.{nothing_cached}
 use Rattle.ak_enclu.specs.Machines.{IsProcessor}
 use Rattle.ak_tlb.specs.Fills.{HoldsFills}
@@ -57,9 +57,9 @@ module _ (cpus : List Cpu) where
     }
 
 module _ (image : Image) (frames lps : ℕ) (b : Built) (cpus : List Cpu) (new : AreNew lps cpus)
-    (m : BuiltAs (sealed_layout image frames lps) image.bytes b (new_processors cpus)) where
+    (m : BuiltAs (layout_of image frames lps) image.bytes b (new_processors cpus)) where
   abbrev parts : Parts
-  parts = record { layout = sealed_layout image frames lps; encls = b.encls; table = b.table; cpus = cpus }
+  parts = record { layout = layout_of image frames lps; encls = b.encls; table = b.table; cpus = cpus }
 
   is_state : IsState parts m.state
   is_state = record { paging = m.paging; mapped = m.mapped; processors = are_processors cpus lps new m.state m.processors_are }
@@ -67,24 +67,23 @@ module _ (image : Image) (frames lps : ℕ) (b : Built) (cpus : List Cpu) (new :
   pub just_built : IsJustBuilt image.bytes parts
   just_built = record { state = m.state; machine = is_state; built = m.built }
 
-  pub sound_built : IsValid (sealed_layout image frames lps) → IsSound parts
+  pub sound_built : IsValid (layout_of image frames lps) → IsSound parts
   sound_built valid = record {
-    sealed = refl;
     each = new.count;
     sized = m.sized;
     somewhere = record {
       image = image.bytes;
       past = [];
-      control = control_at_build (sealed_layout image frames lps) [];
+      control = control_at_build [];
       turns = [];
       state = m.state;
       machine = is_state;
-      stands = built_stands (sealed_layout image frames lps) image.bytes m.state valid m.built;
+      stands = built_stands (layout_of image frames lps) image.bytes m.state valid m.built;
     };
   }
 
   -- with the parts as they stand in the machine
-  module _ (layout : Layout) (encls : Enclave) (table : List Pte) (same_layout : layout ≡ sealed_layout image frames lps) (same_encls : encls ≡ b.encls) (same_table : table ≡ b.table) where
+  module _ (layout : Layout) (encls : Enclave) (table : List Pte) (same_layout : layout ≡ layout_of image frames lps) (same_encls : encls ≡ b.encls) (same_table : table ≡ b.table) where
     moved : (P : Parts → Type 0) → P parts → P (record { layout = layout; encls = encls; table = table; cpus = cpus })
     moved P here =
         subst (λ (l : Layout). P (record { layout = l; encls = encls; table = table; cpus = cpus })) (sym same_layout)

@@ -15,7 +15,6 @@ use Rattle.ak_core.specs.declared.page.Lp.{Lp}
 use Rattle.ak_epcm.specs.Entries.{entry_at, has_page}
 use Rattle.ak_model.specs.Kernels.Repeats.{is_done}
 use Rattle.ak_model.specs.Flat.Instructions.{number_at}
-use Rattle.ak_model.specs.Paging.Build.{entering_walks}
 use Rattle.ak_model.specs.Paging.Histories.{History}
 use Rattle.ak_model.specs.Paging.Inside.{processors}
 use Rattle.ak_model.specs.Paging.Pages.{code_page, ssa_page, tcs_page}
@@ -132,21 +131,18 @@ pub record ResumeFacts (cpu : Cpu) (busy : Bool) (a : Answer) (c : Cpu) (new old
 -- ---- No such processor
 
 module _ (parts : Parts) (s : IsSound parts) where
-  walks : entering_walks parts.layout.build ≡ true
-  walks = ap entering_walks s.sealed
-
   module _ (lp : Lp) (none : parts.layout.lps ≤ lp.0) where
     unknown : nat_lt lp.0 parts.layout.lps ≡ false
     unknown = grind (arith, nat_tests, none)
 
     pub no_enter : (v : ℕ) → Moves parts (Eenter lp v) (plainly NoLp) parts
-    no_enter v = stays parts (Eenter lp v) NoLp refl (λ state machine. enter_refused parts.layout walks state lp v NoLp refl (by_lp state))
+    no_enter v = stays parts (Eenter lp v) NoLp refl (λ state machine. enter_refused parts.layout state lp v NoLp refl (by_lp state))
       where
         by_lp : (state : State) → enter_row parts.layout state lp.0 ≡ NoLp
         by_lp state = rw (unknown) refl
 
     pub no_resume : Moves parts (Eresume lp) (plainly NoLp) parts
-    no_resume = stays parts (Eresume lp) NoLp refl (λ state machine. resume_refused parts.layout walks state lp NoLp refl (by_lp state))
+    no_resume = stays parts (Eresume lp) NoLp refl (λ state machine. resume_refused parts.layout state lp NoLp refl (by_lp state))
       where
         by_lp : (state : State) → resume_row parts.layout state lp.0 ≡ NoLp
         by_lp state = rw (unknown) refl
@@ -221,7 +217,7 @@ module _ (parts : Parts) (s : IsSound parts) where
       enter_refuses : is_done a ≡ false → Moves parts (Eenter lp v) (plainly a) parts
       enter_refuses undone = stays parts (Eenter lp v) a undone (λ state machine.
           subst (λ (q : Lp). IsMove parts.layout state state (Eenter q v) a None) (numbered parts lp cpu at state machine)
-          (λ image past control turns st. enter_refused parts.layout walks state cpu.lp v a undone (row_here state machine past st.tables) image past control turns st))
+          (λ image past control turns st. enter_refused parts.layout state cpu.lp v a undone (row_here state machine past st.tables) image past control turns st))
 
       -- done
       module _ (encls : Enclave) (ok : a ≡ Ok)
@@ -244,7 +240,7 @@ module _ (parts : Parts) (s : IsSound parts) where
         enters state machine image past control turns st =
             let saved_same : saved_of bytes ≡ saved_in parts.layout state =
             ap saved_of (bytes_same parts.layout past state cpu parts.table parts.encls st.tables (one_machine parts lp cpu at state machine)) in
-            enter_moves parts.layout walks state cpu.lp (made state machine).state v word (row_here state machine past st.tables ∙ ok)
+            enter_moves parts.layout state cpu.lp (made state machine).state v word (row_here state machine past st.tables ∙ ok)
             (subst (λ (n : ℕ). EntersAt parts.layout cpu.lp.0 n v state (made state machine).state) saved_same (made state machine).does) image past control turns st
 
         enter_to : (state : State) → IsState parts state → MovesTo parts.layout state (Eenter lp v) (plainly Ok) (after entering encls)
@@ -285,7 +281,7 @@ module _ (parts : Parts) (s : IsSound parts) where
       resume_refuses : is_done a ≡ false → Moves parts (Eresume lp) (plainly a) parts
       resume_refuses undone = stays parts (Eresume lp) a undone (λ state machine.
           subst (λ (q : Lp). IsMove parts.layout state state (Eresume q) a None) (numbered parts lp cpu at state machine)
-          (λ image past control turns st. resume_refused parts.layout walks state cpu.lp a undone (resume_here state machine past st.tables) image past control turns st))
+          (λ image past control turns st. resume_refused parts.layout state cpu.lp a undone (resume_here state machine past st.tables) image past control turns st))
 
       module _ (encls : Enclave) (ok : a ≡ Ok)
           (to : EntersTo cpu.lp.0 (pte_at parts.table tcs).frame.0 (with_saved (saved_of bytes - 1) bytes) parts.encls encls) where
@@ -317,7 +313,7 @@ module _ (parts : Parts) (s : IsSound parts) where
         resumes state machine image past control turns st =
             let saved_same : saved_of bytes ≡ saved_in parts.layout state =
             ap saved_of (bytes_same parts.layout past state cpu parts.table parts.encls st.tables (one_machine parts lp cpu at state machine)) in
-            resume_moves parts.layout walks state cpu.lp (back state machine).state (resume_here state machine past st.tables ∙ ok)
+            resume_moves parts.layout state cpu.lp (back state machine).state (resume_here state machine past st.tables ∙ ok)
             (subst (λ (n : ℕ). ResumesAt parts.layout cpu.lp.0 (n - 1) state (back state machine).state) saved_same (back state machine).does) image past control turns st
 
         resume_to : (state : State) → IsState parts state → MovesTo parts.layout state (Eresume lp) (plainly Ok) (after resuming encls)

@@ -3,11 +3,9 @@ use Rattle.std.proofs.Common.{◌≡◌, ℕ, ◌<◌, Bool, true, false, List, 
 use Rattle.std.proofs.lemmas.Bool.{eqb-false, eqb-true, ltb-true}
 use Rattle.std.proofs.lemmas.List.{length-set}
 use Rattle.std.specs.Prelude.{None}
-use Rattle.ak_core.specs.declared.build.Build.{Build}
 use Rattle.ak_core.specs.declared.moves.Answer.TheVariants.{Ok, NoPage}
 use Rattle.ak_core.specs.declared.moves.Move.TheVariants.{SetPte, ReadPte}
 use Rattle.ak_core.specs.declared.page.Page.{Page}
-use Rattle.ak_model.specs.Paging.Build.{known_pages}
 use Rattle.ak_model.specs.Paging.Holdings.{Mapping}
 use Rattle.ak_model.specs.Paging.Pages.{all_pages}
 use Rattle.ak_pte.specs.Table.{pte_at, unmapped}
@@ -23,15 +21,12 @@ use Rattle.ak_paged_machine.specs.Moves.{Moves, plainly}
 use Rattle.ak_paged_machine.proofs.Plain.{counts_none, plain_moves, stays}
 
 module _ (parts : Parts) (s : IsSound parts) (p : Page) where
-  known : (b : Bool) → nat_lt p.0 (all_pages parts.layout) ≡ b → nat_lt p.0 (known_pages parts.layout.build parts.layout) ≡ b
-  known b has = ap (λ (build : Build). nat_lt p.0 (known_pages build parts.layout)) s.sealed ∙ has
-
   -- a page that there is not
   pub not_set : (e : Pte) → nat_lt p.0 (all_pages parts.layout) ≡ false → Moves parts (SetPte p e.frame e.flags) (plainly NoPage) parts
-  not_set e none = stays parts (SetPte p e.frame e.flags) NoPage refl (λ state machine. set_pte_refused parts.layout state p e.frame e.flags (known false none))
+  not_set e none = stays parts (SetPte p e.frame e.flags) NoPage refl (λ state machine. set_pte_refused parts.layout state p e.frame e.flags none)
 
   pub not_read : nat_lt p.0 (all_pages parts.layout) ≡ false → Moves parts (ReadPte p) (plainly NoPage) parts
-  not_read none = stays parts (ReadPte p) NoPage refl (λ state machine. read_pte_refused parts.layout state p (known false none))
+  not_read none = stays parts (ReadPte p) NoPage refl (λ state machine. read_pte_refused parts.layout state p none)
 
   -- reading
   pub is_read : nat_lt p.0 (all_pages parts.layout) ≡ true → Moves parts (ReadPte p) (plainly (pte_answer (mapping_of (pte_at parts.table p.0)))) parts
@@ -39,7 +34,7 @@ module _ (parts : Parts) (s : IsSound parts) (p : Page) where
       stays parts (ReadPte p) (pte_answer (mapping_of (pte_at parts.table p.0))) refl
       (λ state machine. subst (λ (entry : Mapping). IsMove parts.layout state state (ReadPte p) (pte_answer entry) None)
       (machine.mapped p.0 (ltb-true p.0 (all_pages parts.layout) has))
-      (read_pte_moves parts.layout state p (known true has) (ltb-true p.0 (all_pages parts.layout) has)))
+      (read_pte_moves parts.layout state p has))
 
   -- setting
   module _ (e : Pte) (has : nat_lt p.0 (all_pages parts.layout) ≡ true) where
@@ -78,7 +73,7 @@ module _ (parts : Parts) (s : IsSound parts) (p : Page) where
       each = refl;
       sized = length-set parts.table p.0 e;
       moved = λ state machine. plain_moves parts.layout state (with_mapping state p.0 (mapping_of e)) (SetPte p e.frame e.flags) Ok (record parts { table = table })
-          (entry_set state machine) refl refl (set_pte_moves parts.layout state p e.frame e.flags (known true has));
+          (entry_set state machine) refl refl (set_pte_moves parts.layout state p e.frame e.flags has);
       refused = λ undone. absurd (cc);
       counts = counts_none parts.encls parts.encls Ok refl refl refl;
       few = omega arith;

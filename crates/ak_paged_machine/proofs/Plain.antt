@@ -7,6 +7,7 @@ use Rattle.ak_core.specs.declared.moves.Move.{Move}
 use Rattle.ak_core.specs.declared.moves.Move.TheVariants.{Run}
 use Rattle.ak_model.specs.Kernels.Repeats.{is_done}
 use Rattle.ak_relation.proofs.Runs.NamedMoves.{other_names}
+use Rattle.ak_relation.proofs.Runs.ToldMoves.{other_move}
 use Rattle.ak_relation.specs.Relation.Causes.{is_run}
 use Rattle.ak_relation.specs.Relation.Does.{IsMove}
 use Rattle.ak_relation.specs.State.MachineState.{State}
@@ -33,6 +34,7 @@ plain_moves layout old new m a parts machine same none move = record {
   count = omega (arith, same);
   move = move;
   cause = other_names layout old new m a None none move;
+  notes = other_move layout old new m a none;
 }
 
 -- nothing is counted

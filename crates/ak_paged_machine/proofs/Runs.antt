@@ -114,6 +114,7 @@ module _ (parts : Parts) (s : IsSound parts) (lp : Lp) (cpu : Cpu) (at : slice_g
           count = r.count;
           move = r.move;
           cause = r.cause;
+          notes = r.notes;
         }
 
     pub run_made : Moves parts (Run lp n) (run_applied ran) ended

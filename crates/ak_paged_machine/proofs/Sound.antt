@@ -27,7 +27,6 @@ module _ (before after : Parts) (m : Move) (applied : Applied) (moves : Moves be
 
   pub sound_after : IsSound before → IsSound after
   sound_after old = record {
-    sealed = ap (λ (layout : Layout). layout.build) moves.layout ∙ old.sealed;
     each = moves.each ∙ old.each ∙ sym (ap (λ (layout : Layout). layout.lps) moves.layout);
     sized = moves.sized ∙ old.sized ∙ sym (ap all_pages moves.layout);
     somewhere = stands_after old.somewhere;
@@ -52,7 +51,6 @@ spare_state parts n state machine = record {
 
 pub sound_spare : (parts : Parts) (n : ℕ) → IsSound parts → IsSound (with_spare parts n)
 sound_spare parts n s = record {
-  sealed = s.sealed;
   each = s.each;
   sized = s.sized;
   somewhere = record {

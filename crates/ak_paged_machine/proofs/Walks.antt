@@ -1,5 +1,5 @@
 -- What a machine tells of its pages, where its tables stand for a history.
-use Rattle.std.proofs.Common.{◌≡◌, ℕ, ◌<◌, true, List, length, ap, sym, ◌∙◌, subst}
+use Rattle.std.proofs.Common.{◌≡◌, ℕ, ◌<◌, ◌≤◌, true, List, length, ap, sym, ◌∙◌, subst}
 use Rattle.std.specs.Prelude.{Option}
 use Rattle.ak_core.specs.Mem.{access_to}
 use Rattle.ak_core.specs.declared.page.Entry.{Entry}
@@ -27,7 +27,8 @@ use Rattle.ak_walk.specs.Mappings.{mapping_of}
 use Rattle.ak_encls.specs.Enclave.{frame_at}
 use Rattle.ak_enclu.specs.TcsBytes.{saved_of}
 use Rattle.ak_memory.specs.Granting.{is_walked}
-use Rattle.ak_paged_machine.specs.Machines.{HasBytes, IsState, Parts}
+use Rattle.ak_paged_machine.specs.Machines.{HasBytes, IsSound, IsState, Parts}
+use Rattle.ak_paged_machine.proofs.Held.{few_saved}
 
 -- a walk finds a page just where one of the definitions does
 module _ (parts : Parts) (past : History) (state : State) (machine : IsState parts state) (h : TablesStand parts.layout past state) where
@@ -67,3 +68,7 @@ stack_told parts image past control turns state machine h bytes b =
     let says : IsTcs (length control.stack) control.pending (state.frames b.frame) =
     subst (λ (o : Option (List ℕ)). OfCopy o (IsTcs (length control.stack) control.pending)) (ap (copy state) (h.tables.one_copy.placed tcs b.frame there)) h.bytes.pages.tcs in
     ap saved_of (b.bytes_are ∙ sym (machine.paging.frames b.frame)) ∙ says.saved_is
+
+-- and is three at most
+pub few_told : (parts : Parts) → IsSound parts → (bytes : List ℕ) → HasBytes parts.encls (tcs_page parts.layout) bytes → saved_of bytes ≤ 3
+few_told parts s bytes b = subst (λ (x : List ℕ). saved_of x ≤ 3) (sym b.bytes_are) (few_saved parts s b.frame b.held)

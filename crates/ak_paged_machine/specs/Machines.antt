@@ -1,7 +1,6 @@
 -- Which plain values a machine has, and that it stands for some history.
 use Rattle.std.specs.Prelude.{◌≡◌, ℕ, ◌<◌, ◌≤◌, true, false, List, [], length, Some, slice_get}
 use Rattle.ak_core.specs.Layout.{Layout}
-use Rattle.ak_core.specs.declared.build.Build.{Build}
 use Rattle.ak_epcm.specs.Entries.{entry_at, has_page}
 use Rattle.ak_model.specs.Control.ControlState.{Control}
 use Rattle.ak_model.specs.Paging.Histories.{History}
@@ -52,9 +51,8 @@ pub record StandsSomewhere (parts : Parts) : Type 0 where
   pub machine : IsState parts state
   pub stands : Stands parts.layout image (at_moment past control turns state)
 
--- it does, in a sealed layout, with as many processors and entries of the page table as the layout says
+-- it does, with as many processors and entries of the page table as the layout says
 pub record IsSound (parts : Parts) : Type 0 where
-  pub sealed : parts.layout.build ≡ Build.Sealed
   pub each : length parts.cpus ≡ parts.layout.lps
   pub sized : length parts.table ≡ all_pages parts.layout
   pub somewhere : StandsSomewhere parts

@@ -7,10 +7,11 @@ use Rattle.ak_core.specs.declared.moves.Move.TheVariants.{Run}
 use Rattle.ak_model.specs.Kernels.Repeats.{is_done}
 use Rattle.ak_relation.specs.Relation.Causes.{NamesMoveCause}
 use Rattle.ak_relation.specs.Relation.Does.{IsMove}
+use Rattle.ak_relation.specs.Relation.Tells.{TellsMove}
 use Rattle.ak_relation.specs.State.MachineState.{State}
 use Rattle.ak_encls.specs.Answering.{given_by}
 use Rattle.ak_encls.specs.Enclave.{Enclave}
-use Rattle.ak_turns.specs.Running.{outcome_of}
+use Rattle.ak_turns.specs.Running.{fault_in, outcome_of}
 use Rattle.ak_turns.specs.WholeRuns.{event_after}
 use Rattle.ak_turns.specs.declared.notes.ProgramNote.{ProgramNote}
 use Rattle.ak_turns.specs.declared.notes.RuntimeNote.{RuntimeNote}
@@ -27,13 +28,15 @@ turns_in (Run lp n) = n
 turns_in _ = 0
 
 -- the move leads from this state to one of the machine of these parts; it is one of the definitions, with its answer and its event; so
--- many instructions were completed; and the cause of death is the one that the runtime's note names
+-- many instructions were completed; the cause of death is the one that the runtime's note names; and the move tells what the two notes
+-- say
 pub record MovesTo (layout : Layout) (old : State) (m : Move) (applied : Applied) (parts : Parts) : Type 0 where
   pub new : State
   pub machine : IsState parts new
   pub count : new.count ≡ old.count + applied.completed
   pub move : IsMove layout old new m applied.answer (event_after layout old.queue new.count applied.program)
   pub cause : NamesMoveCause layout old new m applied.answer (event_after layout old.queue new.count applied.program) (outcome_of applied.runtime)
+  pub notes : TellsMove layout old new m applied.answer (event_after layout old.queue new.count applied.program) (fault_in applied.program) (outcome_of applied.runtime)
 
 -- a write-out that is done gives a handle and takes one of the spare; and a move makes one cycle of tracking at most
 pub record Counts (old new : Enclave) (a : Answer) : Type 0 where

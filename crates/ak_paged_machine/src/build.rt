@@ -2,7 +2,8 @@
 ghost use Rattle.std.specs.Prelude.{◌≡◌, ◌↔◌, ◌≤◌, ℕ, List, true, false, Err, IfOk, Some, length, slice_get, []};
 ghost use Rattle.ak_measure.specs.Signers.{knows, allows};
 ghost use Rattle.ak_image.specs.Built.{digest_of};
-ghost use Rattle.ak_build.specs.Built.{sealed_layout, HoldsPages};
+ghost use Rattle.ak_image.specs.Image.{layout_of};
+ghost use Rattle.ak_build.specs.Built.{HoldsPages};
 ghost use Rattle.ak_enclu.specs.declared.cpu.Cpu.{Cpu as TheCpu};
 ghost use Rattle.ak_paged_machine.specs.Machines.{AreNew, IsJustBuilt};
 
@@ -55,7 +56,7 @@ impl Machine {
         ensures unknown { (result ≡ Err BuildFault.UnknownSigner) ↔ (knows signers.now image.now.signer ≡ false) }
         ensures unsigned { (result ≡ Err BuildFault.MeasurementNotSigned)
             ↔ ((knows signers.now image.now.signer ≡ true) × (allows signers.now image.now.signer (digest_of image.now) ≡ false)) }
-        ensures layout { IfOk result (λ m. m.layout ≡ sealed_layout image.now frames lps) }
+        ensures layout { IfOk result (λ m. m.layout ≡ layout_of image.now frames lps) }
         ensures built { IfOk result (λ m. IsJustBuilt image.now.bytes m) }
         ensures pages { IfOk result (λ m. HoldsPages image.now m.encls) }
     {

@@ -117,8 +117,8 @@ impl Machine {
         self.memory.is_walked(Fault { page: p, kind: k })
     }
 
-    /// How many contexts are saved, by the TCS, where a frame holds it.
-    pub fn cssa(&self) -> Option<u32>
+    /// How many contexts are saved, by the TCS, where a frame holds it: three at most.
+    pub fn cssa(&self) -> Option<u8>
         ensures held { IfSome result (λ saved. (bytes : List ℕ) × HasBytes self.now.encls (the_tcs_page self.now.layout) bytes × (saved ≡ saved_of bytes)) }
         ensures none { IfNone result (HasNoFrame self.now.encls.entries (the_tcs_page self.now.layout)) }
         ensures stands { (image : List ℕ) (past : History) (control : Control) (turns : List ProgramTurn) (state : State) → IsState self.now state
@@ -126,7 +126,7 @@ impl Machine {
     {
         let tcs = Page(tcs_page(self.layout.perms().len() as u32));
         match self.memory.encls.epcm().frame_of(tcs) {
-            Some(frame) => Some(saved(self.memory.encls.frame(frame))),
+            Some(frame) => Some(saved(self.memory.encls.frame(frame)) as u8),
             None => None,
         }
     }

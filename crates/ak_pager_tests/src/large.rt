@@ -5,7 +5,7 @@ ghost use Rattle.ak_core.specs.Layout.{four_largest, numbers_from};
 use crate::defined::step;
 use crate::memory::Pages;
 use crate::states::{BASE, KEPT, PROGRAM, at_step, put_cluster, put_length, put_phase, saved};
-use ak_core::{Build, Exit, Fault, Kind, Layout, PAGE_SIZE, Page, Perm, StopCause};
+use ak_core::{Exit, Fault, Kind, Layout, PAGE_SIZE, Page, Perm, StopCause};
 use ak_pager::RtTurn;
 use ak_ssa::{Why, frame, guard, save};
 use std::test::Fail;
@@ -30,17 +30,7 @@ fn many_pages(perms: Vec<Perm>, cluster_of: Vec<u32>, clusters: u32) -> Layout
     requires numbered { numbers_from cluster_of.items 0 ≡ Some clusters }
     requires large { four_largest clusters cluster_of.items ≤ 512 }
 {
-    Layout::new(
-        BASE,
-        0,
-        perms,
-        cluster_of,
-        clusters,
-        512,
-        16,
-        1,
-        Build::Sealed,
-    )
+    Layout::new(BASE, 0, perms, cluster_of, clusters, 512, 16, 1)
 }
 
 /// The permissions of so many pages that are only read.

@@ -3,7 +3,7 @@
 use crate::defined::step;
 use crate::memory::Pages;
 use crate::states::{BASE, KEPT, PROGRAM, at_step, number, put_phase, put_queue, saved};
-use ak_core::{Build, Fault, Kind, Layout, Mode, PAGE_SIZE, Page, Perm, Regs};
+use ak_core::{Fault, Kind, Layout, Mode, PAGE_SIZE, Page, Perm, Regs};
 use ak_pager::RtTurn;
 use ak_ssa::{Why, frame, guard, save};
 use std::test::Fail;
@@ -35,7 +35,7 @@ fn eight_pages(rt: &HostRuntime) -> Result<Layout, Fail> {
     ]
     .to_vec(rt.alloc())?;
     let cluster_of = [0, 1, 0, 1, 2, 3, 4, 5].to_vec(rt.alloc())?;
-    Ok(Layout::new(BASE, 8, perms, cluster_of, 6, 6, 16, 1, Build::Sealed))
+    Ok(Layout::new(BASE, 8, perms, cluster_of, 6, 6, 16, 1))
 }
 
 /// A line a row: the step; phase and queue before it; the saved frames of the areas, the oldest first; how the step ends; phase

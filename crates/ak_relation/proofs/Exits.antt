@@ -12,3 +12,4 @@ pub mod EventTurns
 pub mod ExitTurns
 pub mod LeftTables
 pub mod HeldFrames
+pub mod ToldFaults

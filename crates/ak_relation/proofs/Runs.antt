@@ -16,3 +16,5 @@ pub mod TracedStops
 pub mod KeptJournals
 pub mod ReturnedValues
 pub mod StayingBreaks
+pub mod ToldBreaks
+pub mod ToldMoves

@@ -20,3 +20,7 @@ pub mod Faulted
 pub mod FrameWrites
 pub mod RuntimeTurns
 pub mod ValidTurns
+pub mod NotedAccess
+pub mod DyingRows
+pub mod NotedBreaks
+pub mod ToldSteps

@@ -5,3 +5,4 @@ pub mod Inputs
 pub mod Turns
 pub mod Reaching
 pub mod Seeing
+pub mod FaultedTurns

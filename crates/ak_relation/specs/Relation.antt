@@ -7,6 +7,8 @@ pub mod Causes
 pub mod MoveByMove
 pub mod NamedMoves
 pub mod Journals
+pub mod StepNotes
+pub mod Tells
 pub mod Stopping
 pub mod Keeping
 pub mod Example

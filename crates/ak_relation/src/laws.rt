@@ -6,6 +6,7 @@ pub mod entering;
 pub mod holding;
 pub mod journals;
 pub mod leaves;
+pub mod notes;
 pub mod program;
 pub mod reached;
 pub mod runs;

@@ -1,33 +1,54 @@
 -- Scripts and what they say, computed from the definitions.
 use Rattle.std.proofs.Common.{◌≡◌, ℕ, refl, List, [], ◌∷◌, ◌++◌, true, false, Ok, Err, codes}
-use Rattle.ak_core.specs.declared.moves.Move.{Move}
-use Rattle.ak_core.specs.declared.moves.Move.TheVariants.{SetPte, ReadPte, Eenter, Run}
+use Rattle.ak_core.specs.declared.moves.Move.TheVariants.{SetPte, ReadPte, Etrack, Eldb, Eenter, Run}
 use Rattle.ak_script.specs.declared.fault.Refusal.{Refusal}
 use Rattle.ak_script.specs.declared.fault.Refusal.TheVariants as why
-use Rattle.ak_script.specs.Script.{refused_line, script_of}
+use Rattle.ak_script.specs.declared.items.Item.{Item}
+use Rattle.ak_script.specs.declared.items.Item.TheVariants as item
+use Rattle.ak_script.specs.Script.{refused_line, script, script_of}
 
--- the text says these moves
-abbrev Says : List ℕ → List Move → Type 0
-Says text moves = script_of text ≡ Ok moves
+-- the text says these items, and gives these inputs
+abbrev Says : List ℕ → List Item → List ℕ → Type 0
+Says text items inputs = script_of text ≡ Ok (script items inputs)
 
 -- the text is refused at this line, for this reason
 abbrev Refuses : List ℕ → ℕ → Refusal → Type 0
 Refuses text line reason = script_of text ≡ Err (refused_line line reason)
 
-empty_row : Says [] []
+empty_row : Says [] [] []
 unfolding script_of
 empty_row = refl
 
--- each word, blanks at both ends, skipped lines, both endings, the last newline missing
-every_word : Says (codes "eenter 1 0\n\n# eblock 8\nrun 3 1000000\r\n\tsetpte  1 2 pd \n \t\n  #\nreadpte 4294967295")
-    (Eenter (record { 0 = 1 }) 0 ∷ Run (record { 0 = 3 }) 1000000 ∷ SetPte (record { 0 = 1 }) (record { 0 = 2 }) (record { p = true; w = false; x = false; a = false; d = true }) ∷ ReadPte (record { 0 = 4294967295 }) ∷ [])
+-- blanks at both ends, skipped lines, both endings, the last newline missing
+every_form : Says (codes "eenter 1 0\n\n# eblock 8\nrun 3 1000000\r\n\tsetpte  1 2 pd \n \t\n  #\nreadpte 4294967295")
+    (item.Move (Eenter (record { 0 = 1 }) 0) ∷ item.Move (Run (record { 0 = 3 }) 1000000) ∷ item.Move (SetPte (record { 0 = 1 }) (record { 0 = 2 }) (record { p = true; w = false; x = false; a = false; d = true })) ∷ item.Move (ReadPte (record { 0 = 4294967295 })) ∷ []) []
 unfolding script_of
-every_word = refl
+every_form = refl
+
+-- inputs stand anywhere, and are no moves
+inputs_row : Says (codes "input 7\nauto 20000\ninput 18446744073709551615") (item.Auto 20000 ∷ []) (7 ∷ 18446744073709551615 ∷ [])
+unfolding script_of
+inputs_row = refl
+
+-- the operands of a loading instruction, in order
+load_row : Says (codes "etrack\neldb 1 2 3 4 511") (item.Move Etrack ∷ item.Move (Eldb (record { 0 = 1 }) (record { 0 = 2 }) (record { 0 = 3 }) (record { 0 = 4 }) 511) ∷ []) []
+unfolding script_of
+load_row = refl
 
 -- a comment may have any bytes
-comment_row : Says (35 ∷ 255 ∷ 0 ∷ 13 ∷ 200 ∷ 10 ∷ codes "run 0 1") (Run (record { 0 = 0 }) 1 ∷ [])
+comment_row : Says (35 ∷ 255 ∷ 0 ∷ 13 ∷ 200 ∷ 10 ∷ codes "run 0 1") (item.Move (Run (record { 0 = 0 }) 1) ∷ []) []
 unfolding script_of
 comment_row = refl
+
+-- `auto` counts as so many moves
+auto_row : Refuses (codes "auto 20000\ninput 1\netrack") 3 why.TooMany
+unfolding script_of
+auto_row = refl
+
+-- and as a thousand turns for each
+auto_turns_row : Refuses (codes "run 0 1\nauto 20000") 2 why.TooMany
+unfolding script_of
+auto_turns_row = refl
 
 -- another line may not, and this comes before all else
 ascii_row : Refuses (codes "eblock " ++ 128 ∷ []) 1 why.NotAscii

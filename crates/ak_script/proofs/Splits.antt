@@ -15,7 +15,7 @@ pub unwrap_or-position : (p : ℕ → Bool) (xs : List ℕ) → unwrap_or (posit
 unwrap_or-position p xs = grind (arith, nat_tests, prefix_len-le-length (λ x. not (p x)) xs)
 
 -- the parts that are not empty
-abbrev filled : List (List ℕ) → List (List ℕ)
+abbrev pub filled : List (List ℕ) → List (List ℕ)
 filled parts = filter (λ part. not (length part == 0)) parts
 
 -- what stands between elements that pass
@@ -44,14 +44,14 @@ is_false true e = absurd (false≢true e)
 is_false false e = refl
 
 -- a part, if it is not empty, before others
-abbrev with_front : List ℕ → List (List ℕ) → List (List ℕ)
+abbrev pub with_front : List ℕ → List (List ℕ) → List (List ℕ)
 with_front [] parts = parts
 with_front (b ∷ bs) parts = (b ∷ bs) ∷ parts
 
 is_some : (n : ℕ) → not (suc n == 0) ≡ true
 is_some n = grind (arith, nat_tests)
 
-filled-cons : (part : List ℕ) (parts : List (List ℕ)) → filled (part ∷ parts) ≡ with_front part (filled parts)
+pub filled-cons : (part : List ℕ) (parts : List (List ℕ)) → filled (part ∷ parts) ≡ with_front part (filled parts)
 filled-cons [] parts = refl
 filled-cons (b ∷ bs) parts = rw (is_some (length bs)) refl
 
@@ -135,7 +135,7 @@ lines_of_parts-cond first true x others parts = refl
 lines_of_parts-cond first false x others [] = refl
 lines_of_parts-cond first false x others (part ∷ parts) = refl
 
-lines_of_parts-more : (first : List ℕ) (p : ℕ → Bool) (xs : List ℕ) → lines_of_parts (first ∷ slice_split p xs) ≡ strip_carriage_return first ∷ lines_of_parts (slice_split p xs)
+pub lines_of_parts-more : (first : List ℕ) (p : ℕ → Bool) (xs : List ℕ) → lines_of_parts (first ∷ slice_split p xs) ≡ strip_carriage_return first ∷ lines_of_parts (slice_split p xs)
 lines_of_parts-more first p [] = refl
 lines_of_parts-more first p (x ∷ xs) = lines_of_parts-cond first (p x) x (slice_split p xs) (slice_split p xs)
 

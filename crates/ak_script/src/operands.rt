@@ -1,22 +1,29 @@
 // What the words after the first one mean.
-ghost use Rattle.std.specs.Prelude.{◌≡◌, ◌<◌, ◌≤◌, ◌^◌, IfOk, IsTrue, SomeIff};
+ghost use Rattle.std.specs.Prelude.{◌≡◌, ◌<◌, ◌^◌, IfOk, IsTrue, SomeIff};
 ghost use Rattle.std.specs.Char.{is_ascii_digit};
 ghost use Rattle.std.specs.List.{list_all};
-ghost use Rattle.ak_script.specs.Operand.{PAGE, FRAME, LP, VALUE, TURNS, meaning_of, number_in as the_number};
+ghost use Rattle.ak_script.specs.Operand.{PAGE, FRAME, HANDLE, SLOT, LP, VALUE, TURNS, MOVES, fits, is_within, meaning_of, number_within as the_number};
 ghost use Rattle.ak_script.specs.Words.{decimal as the_decimal, is_number as the_test};
 
 use crate::fault::Refusal;
-use ak_core::{Frame, Lp, Page};
+use ak_core::{Frame, Handle, Lp, Page};
 
-// The most turns of one move.
-const MOST_TURNS_OF_MOVE: u64 = 1_000_000;
+// The last slot of a version array.
+const LAST_SLOT: u64 = 511;
 
 // The last processor.
 const LAST_LP: u64 = 3;
 
+// The most turns of one move.
+const MOST_TURNS: u64 = 1_000_000;
+
+// The most moves of the honest kernel in one item.
+const MOST_MOVES: u64 = 20_000;
+
 /// A page.
 pub fn page_of(word: &[u8]) -> Result<Page, Refusal>
-    ensures { result ≡ meaning_of PAGE word.now }
+    ensures value { result ≡ meaning_of PAGE word.now }
+    ensures range { IfOk result (λ page. IsTrue (fits PAGE page.0)) }
 {
     let number = number_in(word, 0, u64::from(u32::MAX))?;
     Ok(Page(number as u32))
@@ -24,24 +31,44 @@ pub fn page_of(word: &[u8]) -> Result<Page, Refusal>
 
 /// A frame.
 pub fn frame_of(word: &[u8]) -> Result<Frame, Refusal>
-    ensures { result ≡ meaning_of FRAME word.now }
+    ensures value { result ≡ meaning_of FRAME word.now }
+    ensures range { IfOk result (λ frame. IsTrue (fits FRAME frame.0)) }
 {
     let number = number_in(word, 0, u64::from(u32::MAX))?;
     Ok(Frame(number as u32))
 }
 
+/// A handle of a sealed page.
+pub fn handle_of(word: &[u8]) -> Result<Handle, Refusal>
+    ensures value { result ≡ meaning_of HANDLE word.now }
+    ensures range { IfOk result (λ handle. IsTrue (fits HANDLE handle.0)) }
+{
+    let number = number_in(word, 0, u64::from(u32::MAX))?;
+    Ok(Handle(number as u32))
+}
+
+/// A slot of a version array.
+pub fn slot_of(word: &[u8]) -> Result<u16, Refusal>
+    ensures value { result ≡ meaning_of SLOT word.now }
+    ensures range { IfOk result (λ slot. IsTrue (fits SLOT slot)) }
+{
+    let number = number_in(word, 0, LAST_SLOT)?;
+    Ok(number as u16)
+}
+
 /// A processor.
 pub fn lp_of(word: &[u8]) -> Result<Lp, Refusal>
     ensures value { result ≡ meaning_of LP word.now }
-    ensures range { IfOk result (λ lp. lp.0 ≤ 3) }
+    ensures range { IfOk result (λ lp. IsTrue (fits LP lp.0)) }
 {
     let number = number_in(word, 0, LAST_LP)?;
     Ok(Lp(number as u8))
 }
 
-/// A value for the enclave.
+/// A value for the enclave, or an input.
 pub fn value_of(word: &[u8]) -> Result<u64, Refusal>
-    ensures { result ≡ meaning_of VALUE word.now }
+    ensures value { result ≡ meaning_of VALUE word.now }
+    ensures range { IfOk result (λ value. IsTrue (fits VALUE value)) }
 {
     number_in(word, 0, u64::MAX)
 }
@@ -49,18 +76,25 @@ pub fn value_of(word: &[u8]) -> Result<u64, Refusal>
 /// A number of turns.
 pub fn turns_of(word: &[u8]) -> Result<u32, Refusal>
     ensures value { result ≡ meaning_of TURNS word.now }
-    ensures least { IfOk result (λ turns. 1 ≤ turns) }
-    ensures most { IfOk result (λ turns. turns ≤ 1000000) }
+    ensures range { IfOk result (λ turns. IsTrue (fits TURNS turns)) }
 {
-    let number = number_in(word, 1, MOST_TURNS_OF_MOVE)?;
+    let number = number_in(word, 1, MOST_TURNS)?;
     Ok(number as u32)
 }
 
-// A number in a range.
-fn number_in(word: &[u8], least: u64, most: u64) -> Result<u64, Refusal>
+/// A number of moves.
+pub fn moves_of(word: &[u8]) -> Result<u32, Refusal>
+    ensures value { result ≡ meaning_of MOVES word.now }
+    ensures range { IfOk result (λ moves. IsTrue (fits MOVES moves)) }
+{
+    let number = number_in(word, 1, MOST_MOVES)?;
+    Ok(number as u32)
+}
+
+/// The number that a word spells, from `least` to `most`.
+pub fn number_in(word: &[u8], least: u64, most: u64) -> Result<u64, Refusal>
     ensures value { result ≡ the_number least most word.now }
-    ensures least { IfOk result (λ number. least ≤ number) }
-    ensures most { IfOk result (λ number. number ≤ most) }
+    ensures range { IfOk result (λ number. IsTrue (is_within least most number)) }
 {
     if !is_number(word) {
         return Err(Refusal::Number);

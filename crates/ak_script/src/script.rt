@@ -1,10 +1,10 @@
-// A script as it is read: what the kernel does, a line each.
-ghost use Rattle.std.specs.Prelude.{◌≡◌, ◌⊎◌, ◌<◌, ◌^◌, ℕ, List, length, IfOk, Ok, Err};
-ghost use Rattle.ak_core.specs.declared.moves.Move.{Move};
-ghost use Rattle.ak_script.specs.Script.{refused_line, script_of, turns_of as the_turns, KeepsLimits};
+// A script as it is read, line by line.
+ghost use Rattle.std.specs.Prelude.{◌≡◌, ◌⊎◌, ◌<◌, ◌*◌, ◌^◌, ℕ, List, length, IfOk, Ok, Err};
+ghost use Rattle.ak_script.specs.Script.{Script as TheScript, moves_in as the_moves, refused_line, script_of, turns_in as the_turns, KeepsLimits};
 ghost use Rattle.ak_script.specs.declared.fault.Refusal.{Refusal};
 
 use crate::fault::{Refusal, ScriptFault};
+use crate::items::{Item, Line};
 use crate::line::read_line;
 use crate::splitting::split_line;
 use ak_core::Move;
@@ -12,66 +12,78 @@ use std::alloc::Global;
 use std::marker::Model;
 
 // The most moves of a script.
-const MOST_MOVES: usize = 20_000;
+const MOST_MOVES: u32 = 20_000;
 
-// The most turns of a script's moves.
-const MOST_TURNS_OF_SCRIPT: u32 = 20_000_000;
+// The most turns of a script.
+const MOST_TURNS: u32 = 20_000_000;
 
-/// The moves of a script. Contracts see their list.
+// The turns as which a move of the honest kernel counts.
+const TURNS_OF_HONEST_MOVE: u32 = 1000;
+
+/// What the kernel does, and the inputs. Contracts see both lists.
 #[derive(Debug, Drop)]
 pub struct Script {
-    moves: Vec<Move>,
+    items: Vec<Item>,
+    inputs: Vec<u64>,
 }
 
 impl Model for Script {
-    ghost use Rattle.std.specs.Prelude.{List};
-    ghost use Rattle.ak_core.specs.declared.moves.Move.{Move};
-    ghost use Rattle.ak_script.specs.Script.{KeepsLimits};
+    ghost use Rattle.ak_script.specs.Script.{KeepsLimits, Script as TheScript, script};
 
-    ghost Value = { List Move };
+    ghost Value = { TheScript };
 
-    ghost view = { λ script. script.moves.items };
+    ghost view = { λ s. script s.items.items s.inputs.items };
 
-    ghost invariant = { λ script. KeepsLimits script.moves.items };
+    ghost invariant = { λ s. KeepsLimits (script s.items.items s.inputs.items) };
 }
 
 impl Script {
-    /// Reads a script: a move a line, words separated by spaces and tabs.
+    /// Reads a script: an item or an input a line, in words separated by spaces and tabs.
     ///
-    /// An empty line and a line whose first word begins with `#` are skipped. The first other line that spells no move is
-    /// refused.
+    /// An empty line and a line whose first word begins with `#` are skipped. The first other line that spells neither an item
+    /// nor an input, or with which the moves or their turns are too many, is refused.
     pub fn read(alloc: Global, bytes: &[u8]) -> Result<Script, ScriptFault>
         requires { length bytes.now < 2 ^ 32 }
-        ensures read { IfOk result (λ moves. script_of bytes.now ≡ Ok moves) }
+        ensures read { IfOk result (λ script. script_of bytes.now ≡ Ok script) }
         ensures refused { (line : ℕ) (why : Refusal) → result ≡ Err (ScriptFault.Refused line why) → script_of bytes.now ≡ Err (refused_line line why) }
 
         // Want of memory alone comes in the place of either.
-        ensures reads { (moves : List Move) → script_of bytes.now ≡ Ok moves → (result ≡ Ok moves) ⊎ (result ≡ Err ScriptFault.OutOfMemory) }
+        ensures reads { (script : TheScript) → script_of bytes.now ≡ Ok script → (result ≡ Ok script) ⊎ (result ≡ Err ScriptFault.OutOfMemory) }
         ensures refuses { (line : ℕ) (why : Refusal) → script_of bytes.now ≡ Err (refused_line line why) → (result ≡ Err (ScriptFault.Refused line why)) ⊎ (result ≡ Err ScriptFault.OutOfMemory) }
     {
-        match read_moves(alloc, bytes) {
-            Ok(moves) => Ok(Script { moves }),
+        match read_lines(alloc, bytes) {
+            Ok(script) => Ok(script),
             Err(fault) => Err(fault),
         }
     }
 
-    /// The moves, in order: at most 20,000 with at most 20,000,000 turns.
-    pub fn moves(&self) -> &[Move]
-        ensures value { result.now ≡ self.now }
+    /// What the kernel is to do, in order: at most 20,000 moves with at most 20,000,000 turns, where `Item::Auto(n)` counts as
+    /// n moves with 1000 turns each.
+    pub fn items(&self) -> &[Item]
+        ensures value { result.now ≡ self.now.items }
         ensures limits { KeepsLimits self.now }
     {
-        &self.moves
+        &self.items
+    }
+
+    /// The inputs for the program, in order.
+    pub fn inputs(&self) -> &[u64]
+        ensures value { result.now ≡ self.now.inputs }
+        ensures limits { KeepsLimits self.now }
+    {
+        &self.inputs
     }
 }
 
-// The moves of a script.
-fn read_moves(alloc: Global, bytes: &[u8]) -> Result<Vec<Move>, ScriptFault>
+// What a script says.
+fn read_lines(alloc: Global, bytes: &[u8]) -> Result<Script, ScriptFault>
     requires { length bytes.now < 2 ^ 32 }
-    ensures read { IfOk result (λ moves. script_of bytes.now ≡ Ok moves.items) }
+    ensures read { IfOk result (λ script. script_of bytes.now ≡ Ok script) }
     ensures refused { (line : ℕ) (why : Refusal) → result ≡ Err (ScriptFault.Refused line why) → script_of bytes.now ≡ Err (refused_line line why) }
-    ensures limits { IfOk result (λ moves. KeepsLimits moves.items) }
 {
-    let mut moves = Vec::new(alloc);
+    let mut items = Vec::new(alloc);
+    let mut inputs = Vec::new(alloc);
+    let mut moves = 0u32;
     let mut turns = 0u32;
     let mut number = 0u32;
     let mut rest = bytes;
@@ -81,28 +93,44 @@ fn read_moves(alloc: Global, bytes: &[u8]) -> Result<Vec<Move>, ScriptFault>
         number += 1;
         match read_line(line) {
             Ok(None) => {}
-            Ok(Some(next)) => {
-                turns += turns_of(next);
-                if moves.len() == MOST_MOVES || turns > MOST_TURNS_OF_SCRIPT {
+            Ok(Some(Line::Input(value))) => {
+                inputs.push(value)?;
+            }
+            Ok(Some(Line::Item(item))) => {
+                moves += moves_in(item);
+                turns += turns_in(item);
+                if moves > MOST_MOVES || turns > MOST_TURNS {
                     return Err(ScriptFault::Refused {
                         line: number,
                         why: Refusal::TooMany,
                     });
                 }
-                moves.push(next)?;
+                items.push(item)?;
             }
             Err(why) => return Err(ScriptFault::Refused { line: number, why }),
         }
     }
-    Ok(moves)
+    Ok(Script { items, inputs })
 }
 
-// How many turns a move asks for.
-fn turns_of(next: Move) -> u32
-    ensures { result ≡ the_turns next }
+// As how many moves an item counts.
+fn moves_in(item: Item) -> u32
+    ensures { result ≡ the_moves item }
 {
-    match next {
-        Move::Run(_, turns) => turns,
-        _ => 0,
+    match item {
+        Item::Move(_) => 1,
+        Item::Auto(moves) => moves,
+    }
+}
+
+// As how many turns an item counts.
+fn turns_in(item: Item) -> u32
+    requires { 1000 * the_moves item < 2 ^ 32 }
+    ensures { result ≡ the_turns item }
+{
+    match item {
+        Item::Move(Move::Run(_, turns)) => turns,
+        Item::Move(_) => 0,
+        Item::Auto(moves) => TURNS_OF_HONEST_MOVE * moves,
     }
 }

@@ -48,6 +48,17 @@ pub fn split_word(text: &[u8]) -> (&[u8], &[u8])
     text.split_at(end)
 }
 
+// A text that has no word.
+pub fn no_words(text: &[u8]) -> Result<(), Refusal>
+    ensures { AreWords result (λ none. []) 0 (words_of text.now) }
+{
+    if has_word(text) {
+        Err(Refusal::Words)
+    } else {
+        Ok(())
+    }
+}
+
 // The word of a text that has one.
 pub fn one_word(text: &[u8]) -> Result<&[u8], Refusal>
     ensures { AreWords result (λ word. word.now ∷ []) 1 (words_of text.entry.now) }
@@ -82,6 +93,21 @@ pub fn three_words(text: &[u8]) -> Result<(&[u8], &[u8], &[u8]), Refusal>
         return Err(Refusal::Words);
     }
     Ok((first, second, third))
+}
+
+// The words of a text that has five.
+pub fn five_words(text: &[u8]) -> Result<(&[u8], &[u8], &[u8], &[u8], &[u8]), Refusal>
+    ensures { AreWords result (λ words. words.0.now ∷ words.1.now ∷ words.2.now ∷ words.3.now ∷ words.4.now ∷ []) 5 (words_of text.entry.now) }
+{
+    let (first, rest) = split_word(text);
+    let (second, rest) = split_word(rest);
+    let (third, rest) = split_word(rest);
+    let (fourth, rest) = split_word(rest);
+    let (fifth, rest) = split_word(rest);
+    if fifth.is_empty() || has_word(rest) {
+        return Err(Refusal::Words);
+    }
+    Ok((first, second, third, fourth, fifth))
 }
 
 // Whether a text has a word.

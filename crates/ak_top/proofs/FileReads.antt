@@ -7,11 +7,10 @@ use Rattle.std.proofs.lemmas.Result.{err_from_is_err_and}
 use Rattle.std.specs.Prelude.{Bool, true, false, IsTrue, IfOk, IsErrAnd, MatchResult, Option, Some, None, Result, Ok, Err, nat_lt, nat_le, replicate}
 use Rattle.std.specs.Result.{result_map_both}
 use Rattle.ak_measure.specs.Stages.{◌>>=◌}
-use Rattle.ak_core.specs.declared.moves.Move.{Move}
 use Rattle.ak_measure.specs.Signers.{Signed, IsReason}
 use Rattle.ak_measure.specs.declared.fault.SignersFault.{SignersFault}
 use Rattle.ak_measure.specs.declared.fault.SignersFault.TheVariants as signers
-use Rattle.ak_script.specs.Script.{RefusedLine, refused_line}
+use Rattle.ak_script.specs.Script.{RefusedLine, Script, refused_line}
 use Rattle.ak_script.specs.declared.fault.Refusal.{Refusal}
 use Rattle.ak_script.specs.declared.fault.ScriptFault.{ScriptFault}
 use Rattle.ak_script.specs.declared.fault.ScriptFault.TheVariants as script
@@ -256,12 +255,12 @@ pub signers_read : (fault : SignersFault) → IsRead {A = Signed} (Err (trouble_
 signers_read signers.OutOfMemory = refl
 signers_read fault = refl
 
-pub script_due : (wanted : Result (List Move) RefusedLine) (fault : ScriptFault) →
+pub script_due : (wanted : Result Script RefusedLine) (fault : ScriptFault) →
     ((line : ℕ) (why : Refusal) → fault ≡ script.Refused line why → wanted ≡ Err (refused_line line why)) →
     IsDue (or_trouble script_trouble wanted) (Err (trouble_of_script fault))
 script_due wanted script.OutOfMemory h = inr refl
 script_due wanted (script.Refused line why) h = refusal_due script_trouble wanted (refused_line line why) (h line why refl)
 
-pub script_read : (fault : ScriptFault) → IsRead {A = List Move} (Err (trouble_of_script fault))
+pub script_read : (fault : ScriptFault) → IsRead {A = Script} (Err (trouble_of_script fault))
 script_read script.OutOfMemory = refl
 script_read fault = refl

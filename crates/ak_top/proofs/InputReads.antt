@@ -2,16 +2,16 @@
 use Rattle.std.proofs.Common.{◌≡◌, ℕ, ◌≤◌, false, List, [], ◌∷◌, ◌++◌, refl, sym, ◌∙◌, ap, subst, inl, inr, ◌⊎◌, arith, append_assoc}
 use Rattle.std.proofs.lemmas.List.{append-nil}
 use Rattle.std.specs.Prelude.{IsTrue, Option, Some, None, Result, Ok, Err, nat_lt}
-use Rattle.ak_core.specs.declared.moves.Move.{Move}
 use Rattle.ak_measure.specs.Signers.{Signed}
 use Rattle.ak_measure.specs.Stages.{◌>>=◌}
 use Rattle.ak_image.specs.Image.{Image}
+use Rattle.ak_script.specs.Script.{Script}
 use Rattle.ak_outside.specs.Causes.{Rose}
-use Rattle.ak_top.specs.Inputs.{limit, image_in, signers_in, moves_in, inputs_in, where_well, asked_in}
+use Rattle.ak_top.specs.Inputs.{limit, image_in, signers_in, script_in, inputs_in, where_well, asked_in}
 use Rattle.ak_top.proofs.FileReads.{due_err, value_is, due_then}
 use Rattle.ak_top.specs.Reads.{IsDue, CountsAt, CountsBy, is_long, is_foreign, is_too_long, AskedAt, AsksFor, AsksBy, AsksUpTo, ReadsFile, Reads}
 use Rattle.ak_top.specs.Seen.{FilesState, Contents, IsSeen}
-use Rattle.ak_top.specs.Words.{Names, Command, Run, Measure}
+use Rattle.ak_words.specs.Asked.{RunTexts, AskedTexts, Run, Measure}
 use Rattle.ak_top.specs.declared.inputs.Inputs.{Inputs}
 use Rattle.ak_top.specs.declared.trouble.Trouble.{Trouble}
 use Rattle.ak_top.specs.declared.trouble.Trouble.TheVariants.{ReadFailed, OutOfMemory}
@@ -68,7 +68,7 @@ within {A} {said} {name} {b} {c} {given} a d h r k = record {
 -- ---- The names that were asked for
 
 -- a name after others, up to a trouble
-pub asks_up_to : (trouble : Trouble) (command : Option Command) (seen : Contents) (asked asked' front : List (List ℕ)) (name : List ℕ) (rest : List (List ℕ)) →
+pub asks_up_to : (trouble : Trouble) (command : Option AskedTexts) (seen : Contents) (asked asked' front : List (List ℕ)) (name : List ℕ) (rest : List (List ℕ)) →
     asked_in command seen ≡ front ++ name ∷ rest → (rest ≡ []) ⊎ (trouble ≡ OutOfMemory) →
     AskedAt trouble name (asked ++ front) asked' → AsksUpTo trouble command seen asked asked'
 asks_up_to OutOfMemory command seen asked asked' front name rest due last (inl e) =
@@ -89,8 +89,8 @@ after_trouble wanted t names (inr e) = inr (cc)
 
 -- ---- The run's files
 
-module _ (names : Names) (files files' : FilesState) where
-  abbrev run : Option Command
+module _ (names : RunTexts) (files files' : FilesState) where
+  abbrev run : Option AskedTexts
   run = Some (Run names)
 
   abbrev ImageGives : Result Image Trouble → Type 0
@@ -99,12 +99,12 @@ module _ (names : Names) (files files' : FilesState) where
   abbrev SignersGive : Result Signed Trouble → Type 0
   SignersGive given = ReadsWithin signers_in names.signers files files' given
 
-  abbrev ScriptGives : Result (List Move) Trouble → Type 0
-  ScriptGives given = ReadsWithin moves_in names.script files files' given
+  abbrev ScriptGives : Result Script Trouble → Type 0
+  ScriptGives given = ReadsWithin script_in names.script files files' given
 
   -- what the signers' and the script's files add
   abbrev with_script : Contents → Image → Signed → Result Inputs Trouble
-  with_script seen image signers = moves_in seen.script >>= λ script. Ok (record { image = image; signers = signers; script = script })
+  with_script seen image signers = script_in seen.script >>= λ script. Ok (record { image = image; signers = signers; script = script })
 
   abbrev with_signers : Contents → Image → Result Inputs Trouble
   with_signers seen image = signers_in seen.signers >>= with_script seen image
@@ -156,7 +156,7 @@ module _ (names : Names) (files files' : FilesState) where
         seen = seen;
         sees = λ t. record { image = r.sees t; signers = s.sees t; script = m.sees t };
         due = due_then (image_in r.seen) (with_signers seen) image (Err trouble) r.due
-            (due_then (signers_in s.seen) (with_script seen image) signers (Err trouble) s.due (due_err (moves_in m.seen) _ trouble m.due));
+            (due_then (signers_in s.seen) (with_script seen image) signers (Err trouble) s.due (due_err (script_in m.seen) _ trouble m.due));
         counts = counts;
         long = long;
         own = own;
@@ -164,7 +164,7 @@ module _ (names : Names) (files files' : FilesState) where
       }
 
   -- all was read
-  pub all_read : (image : Image) (signers : Signed) (script : List Move) → ImageGives (Ok image) → SignersGive (Ok signers) → ScriptGives (Ok script) →
+  pub all_read : (image : Image) (signers : Signed) (script : Script) → ImageGives (Ok image) → SignersGive (Ok signers) → ScriptGives (Ok script) →
       files'.faults ≡ files.faults → is_too_long {A = Inputs} (Ok (record { image = image; signers = signers; script = script })) ≡ nat_lt limit files'.handed →
       (IsTrue files.tells → files'.asked ≡ files.asked ++ names.image ∷ names.signers ∷ names.script ∷ []) →
       Reads inputs_in (Run names) files files' (Ok (record { image = image; signers = signers; script = script }))
@@ -177,7 +177,7 @@ module _ (names : Names) (files files' : FilesState) where
         seen = seen;
         sees = λ t. record { image = r.sees t; signers = s.sees t; script = m.sees t };
         due = due_then (image_in r.seen) (with_signers seen) image (Ok inputs) r.due
-            (due_then (signers_in s.seen) (with_script seen image) signers (Ok inputs) s.due (due_then (moves_in m.seen) _ script (Ok inputs) m.due (inl refl)));
+            (due_then (signers_in s.seen) (with_script seen image) signers (Ok inputs) s.due (due_then (script_in m.seen) _ script (Ok inputs) m.due (inl refl)));
         counts = counts;
         long = long;
         own = refl;
@@ -186,14 +186,14 @@ module _ (names : Names) (files files' : FilesState) where
 
 -- ---- The readings in a row
 
-pub stops_at_image : (names : Names) (s0 s1 : FilesState) (trouble : Trouble) → ReadsFile image_in names.image s0 s1 (Err trouble) →
+pub stops_at_image : (names : RunTexts) (s0 s1 : FilesState) (trouble : Trouble) → ReadsFile image_in names.image s0 s1 (Err trouble) →
     Reads inputs_in (Run names) s0 s1 (Err trouble)
 stops_at_image names s0 s1 trouble r = image_ends names s0 s1 trouble (within s0 s1 (same_state s0) r (same_state s1)) r.counts r.long r.own r.asked
 
 still_tells : (s0 s1 : FilesState) → IsLaterState s0 s1 → IsTrue s0.tells → IsTrue s1.tells
 still_tells s0 s1 h t = subst (λ t. IsTrue t) (sym h.tells) t
 
-pub stops_at_signers : (names : Names) (s0 s1 s2 : FilesState) (image : Image) (trouble : Trouble) →
+pub stops_at_signers : (names : RunTexts) (s0 s1 s2 : FilesState) (image : Image) (trouble : Trouble) →
     ReadsFile image_in names.image s0 s1 (Ok image) → ReadsFile signers_in names.signers s1 s2 (Err trouble) → Reads inputs_in (Run names) s0 s2 (Err trouble)
 stops_at_signers names s0 s1 s2 image trouble r s =
     let first = read_later r in
@@ -201,7 +201,7 @@ stops_at_signers names s0 s1 s2 image trouble r s =
     (subst (λ before. CountsAt trouble before s2.faults) r.counts s.counts) s.long s.own
     (λ t. subst (λ all. AskedAt trouble names.signers all s2.asked) (r.asked t) (s.asked (still_tells s0 s1 first t)))
 
-module _ (names : Names) (s0 s1 s2 s3 : FilesState) (image : Image) (signers : Signed) (r : ReadsFile image_in names.image s0 s1 (Ok image)) (s : ReadsFile signers_in names.signers s1 s2 (Ok signers)) where
+module _ (names : RunTexts) (s0 s1 s2 s3 : FilesState) (image : Image) (signers : Signed) (r : ReadsFile image_in names.image s0 s1 (Ok image)) (s : ReadsFile signers_in names.signers s1 s2 (Ok signers)) where
   both_later : IsLaterState s0 s2
   both_later = then_later s0 s1 s2 (read_later r) (read_later s)
 
@@ -213,7 +213,7 @@ module _ (names : Names) (s0 s1 s2 s3 : FilesState) (image : Image) (signers : S
   both_asked t =
       s.asked (still_tells s0 s1 (read_later r) t) ∙ ap (λ all. all ++ names.signers ∷ []) (r.asked t) ∙ append_assoc s0.asked (names.image ∷ []) (names.signers ∷ [])
 
-  pub stops_at_script : (trouble : Trouble) → ReadsFile moves_in names.script s2 s3 (Err trouble) → Reads inputs_in (Run names) s0 s3 (Err trouble)
+  pub stops_at_script : (trouble : Trouble) → ReadsFile script_in names.script s2 s3 (Err trouble) → Reads inputs_in (Run names) s0 s3 (Err trouble)
   stops_at_script trouble m =
       let last = read_later m in
       script_ends names s0 s3 image signers trouble
@@ -221,7 +221,7 @@ module _ (names : Names) (s0 s1 s2 s3 : FilesState) (image : Image) (signers : S
       (subst (λ before. CountsAt trouble before s3.faults) both_count m.counts) m.long m.own
       (λ t. subst (λ all. AskedAt trouble names.script all s3.asked) (both_asked t) (m.asked (still_tells s0 s2 both_later t)))
 
-  pub reads_all : (script : List Move) → ReadsFile moves_in names.script s2 s3 (Ok script) →
+  pub reads_all : (script : Script) → ReadsFile script_in names.script s2 s3 (Ok script) →
       Reads inputs_in (Run names) s0 s3 (Ok (record { image = image; signers = signers; script = script }))
   reads_all script m =
       let last = read_later m in

@@ -1,8 +1,8 @@
 pub mod FileReads
 pub mod InputReads
-pub mod Returned
-pub mod SoundTurns
-pub mod Sessions
+pub mod Frames
+pub mod Pasts
+pub mod Following
 pub mod Signing
 pub mod Endings
 pub mod Statuses

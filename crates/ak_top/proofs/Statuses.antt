@@ -1,58 +1,100 @@
 -- What each status says, by how the call ended.
-use Rattle.std.proofs.Common.{◌≡◌, ℕ, ◌<◌, List, refl, sym, ◌∙◌, ap, subst, inl, inr, ◌⊎◌, arith}
+use Rattle.std.proofs.Common.{◌≡◌, ℕ, ◌<◌, List, [], refl, sym, ◌∙◌, ap, subst, inl, inr, ◌⊎◌, arith}
 use Rattle.std.proofs.lemmas.Bool.{ltb-true, ltb-false}
 use Rattle.std.proofs.lemmas.List.{append-nil}
 use Rattle.std.specs.Prelude.{Option, Some, None, Result, Ok, Err, nat_lt}
 use Rattle.ak_outside.specs.Causes.{Rose}
-use Rattle.ak_top.specs.Ends.{Ends, Does}
-use Rattle.ak_top.specs.Inputs.{limit, Task, task_in}
+use Rattle.ak_core.specs.declared.event.Stop.{Stop}
+use Rattle.ak_top.specs.Ends.{IsTextOf, Ends, Does}
+use Rattle.ak_top.specs.Inputs.{limit, Task, Report, Digest, task_in, asked_in}
 use Rattle.ak_top.specs.Reads.{CountsBy, is_too_long}
-use Rattle.ak_top.specs.Seen.{FilesState, SinkState, Contents, IsSeen, AreSeen}
+use Rattle.ak_top.specs.Seen.{FilesState, SinkState, Contents, contents_of, IsSeen, AreSeen}
 use Rattle.ak_top.specs.Told.{Told}
-use Rattle.ak_top.specs.TopCall.{status_by, Tells, Serves}
+use Rattle.ak_top.specs.TopCall.{status_stopped, status_by, left_by, Tells, IsStatusOf, Serves}
 use Rattle.ak_top.specs.Trouble.{line_of}
-use Rattle.ak_top.specs.Words.{Command}
+use Rattle.ak_words.specs.Asked.{AskedTexts}
+use Rattle.ak_top.specs.declared.left.Left.{Left}
+use Rattle.ak_top.specs.declared.left.Left.TheVariants as left
 use Rattle.ak_top.specs.declared.trouble.Trouble.{Trouble}
 use Rattle.ak_top.specs.declared.trouble.Trouble.TheVariants.{Usage, ReadFailed, TooLong, WriteFailed, OutOfMemory}
 
 -- ---- Without a command
 
-pub serves_usage : (files : FilesState) (out err err' : SinkState) → Told err err' (line_of Usage None) → Serves 2 None files files out out err err'
+pub serves_usage : (files : FilesState) (out err err' : SinkState) → Told err err' (line_of Usage None) → Serves 2 None files files out out err err' left.Nothing
 serves_usage files out err err' told = record {
   seen = record { image = None; signers = None; script = None };
   sees = λ t. record { image = inl refl; signers = inl refl; script = inl refl };
   ending = Err Usage;
   ends = record { due = refl; still = refl };
   status_is = refl;
+  left_is = refl;
   tells = told;
   asked = λ t. sym (append-nil files.asked);
-  usage = (λ e. refl, λ e. refl);
+  usage = λ e. refl;
+  unused = λ e. inl refl;
   unread = λ e. refl;
   counts = refl;
   read = λ e. absurd (cc);
-  long = (λ e. absurd (cc), λ h. absurd (let none = h.0 in cc));
+  long = λ e. absurd (cc);
+  too_long = λ some. absurd (cc);
   complete = λ t files out. inl refl;
+}
+
+-- memory ran out at the words: nothing was read
+pub serves_nothing : (command : Option AskedTexts) (files : FilesState) (out err err' : SinkState) → Told err err' (line_of OutOfMemory None) →
+    Serves 7 command files files out out err err' left.Nothing
+unfolding line_of
+serves_nothing command files out err err' told = record {
+  seen = contents_of files.content command;
+  sees = λ t. record { image = inl refl; signers = inl refl; script = inl refl };
+  ending = Err OutOfMemory;
+  ends = refl;
+  status_is = refl;
+  left_is = refl;
+  tells = told;
+  asked = λ t. record { front = []; rest = asked_in command (contents_of files.content command); whole = refl; more = sym (append-nil files.asked) };
+  usage = λ e. absurd (cc);
+  unused = λ e. inr refl;
+  unread = λ e. refl;
+  counts = inl refl;
+  read = λ e. absurd (cc);
+  long = λ e. absurd (cc);
+  too_long = λ some long. inr (refl, refl);
+  complete = λ t files out. inr refl;
 }
 
 -- ---- With a command
 
-at_usage : (ending : Result (Unit {0}) Trouble) → status_by ending ≡ 2 → ending ≡ Err Usage
+-- a text that was written has status 0 or 10
+written_status : (given : Left) → (status_by (Ok given) ≡ 0) ⊎ (status_by (Ok given) ≡ 10)
+written_status left.Nothing = inl refl
+written_status (left.Run run) = by_stop run.journal.stop
+  where
+    by_stop : (stop : Option Stop) → (status_stopped stop ≡ 0) ⊎ (status_stopped stop ≡ 10)
+    by_stop None = inl refl
+    by_stop (Some stop) = inr refl
+
+-- and no other
+not_status : {n : ℕ} → (given : Left) → (0 ≡ n → ⊥) → (10 ≡ n → ⊥) → status_by (Ok given) ≡ n → ⊥
+not_status given zero ten e = elim (written_status given) [ inl is ↦ zero (sym is ∙ e) | inr is ↦ ten (sym is ∙ e) ]
+
+at_usage : (ending : Result Left Trouble) → status_by ending ≡ 2 → ending ≡ Err Usage
 at_usage (Err Usage) e = refl
-at_usage (Ok u) e = absurd (cc)
+at_usage (Ok given) e = absurd (not_status given (λ z. cc) (λ t. cc) e)
 at_usage (Err _) e = absurd (cc)
 
 module _ (files files' : FilesState) where
-  at_read : (ending : Result (Unit {0}) Trouble) → CountsBy ending files.faults files'.faults → status_by ending ≡ 5 → Rose files.faults files'.faults
+  at_read : (ending : Result Left Trouble) → CountsBy ending files.faults files'.faults → status_by ending ≡ 5 → Rose files.faults files'.faults
   at_read (Err (ReadFailed place)) h e = omega (arith, h)
-  at_read (Ok u) h e = absurd (cc)
+  at_read (Ok given) h e = absurd (not_status given (λ z. cc) (λ t. cc) e)
   at_read (Err _) h e = absurd (cc)
 
-  at_long : (ending : Result (Unit {0}) Trouble) → is_too_long ending ≡ nat_lt limit files'.handed → status_by ending ≡ 8 → limit < files'.handed
+  at_long : (ending : Result Left Trouble) → is_too_long ending ≡ nat_lt limit files'.handed → status_by ending ≡ 8 → limit < files'.handed
   at_long (Err (TooLong place)) h e = ltb-true _ _ (sym h)
-  at_long (Ok u) h e = absurd (cc)
+  at_long (Ok given) h e = absurd (not_status given (λ z. cc) (λ t. cc) e)
   at_long (Err _) h e = absurd (cc)
 
-  from_long : (ending : Result (Unit {0}) Trouble) → is_too_long ending ≡ nat_lt limit files'.handed → limit < files'.handed → status_by ending ≡ 8
+  from_long : (ending : Result Left Trouble) → is_too_long ending ≡ nat_lt limit files'.handed → limit < files'.handed → status_by ending ≡ 8
   from_long (Err (TooLong place)) h lt = refl
   from_long (Ok u) h lt = absurd (omega (arith, ltb-false _ _ (sym h)))
   from_long (Err _) h lt = absurd (omega (arith, ltb-false _ _ (sym h)))
@@ -71,30 +113,44 @@ module _ (files files' : FilesState) where
       ∙ ap (λ g. record { image = held.image; signers = g; script = seen.script }) signers
       ∙ ap (λ m. record { image = held.image; signers = held.signers; script = m }) script
 
--- where neither failed, the status is that of what was seen
-due_status : (ending : Result (Unit {0}) Trouble) (wanted : Result Task Trouble) (out out' : SinkState) → (Rose out.faults out'.faults → ⊥) → Ends ending wanted out out' →
-    (status_by ending ≡ status_by wanted) ⊎ (status_by ending ≡ 7)
-due_status (Ok u) wanted out out' unrisen h = inl (sym (ap status_by h.due))
+-- the status of a text is one of its task
+text_status : (task : Task) (given : Left) (text : List ℕ) → IsTextOf task given text → IsStatusOf (Ok task) (status_by (Ok given))
+text_status (Report layout inputs) given text is = written_status given
+text_status (Digest image) left.Nothing text is = refl
+text_status (Digest image) (left.Run run) text is = absurd is
+
+-- where neither failed, the status is one of what was seen
+due_status : (ending : Result Left Trouble) (wanted : Result Task Trouble) (out out' : SinkState) → (Rose out.faults out'.faults → ⊥) → Ends ending wanted out out' →
+    IsStatusOf wanted (status_by ending) ⊎ (status_by ending ≡ 7)
+due_status (Ok given) wanted out out' unrisen h =
+    let P : Result Task Trouble → Type 0 = λ due. IsStatusOf due (status_by (Ok given)) in
+    inl (subst P (sym h.due) (text_status h.task given h.text h.is))
 due_status (Err WriteFailed) wanted out out' unrisen h = absurd (unrisen (omega (arith, h.failed)))
 due_status (Err OutOfMemory) wanted out out' unrisen h = inr refl
-due_status (Err _) wanted out out' unrisen h = inl (sym (ap status_by h.due))
+due_status (Err trouble) wanted out out' unrisen h =
+    let P : Result Task Trouble → Type 0 = λ due. IsStatusOf due (status_by (Err trouble)) in
+    inl (subst P (sym h.due) refl)
 
-pub serves : (command : Command) (files files' : FilesState) (out out' err err' : SinkState) (ending : Result (Unit {0}) Trouble) →
-    Does command files files' out out' ending → Tells ending (Some command) err err' → Serves (status_by ending) (Some command) files files' out out' err err'
+pub serves : (command : AskedTexts) (files files' : FilesState) (out out' err err' : SinkState) (ending : Result Left Trouble) →
+    Does command files files' out out' ending → Tells ending (Some command) err err' →
+    Serves (status_by ending) (Some command) files files' out out' err err' (left_by ending)
 serves command files files' out out' err err' ending d tells = record {
   seen = d.seen;
   sees = d.sees;
   ending = ending;
   ends = d.ends;
   status_is = refl;
+  left_is = refl;
   tells = tells;
   asked = d.asked;
-  usage = (λ e. absurd (d.worded (at_usage ending e)), λ e. absurd (cc));
+  usage = λ e. absurd (d.worded (at_usage ending e));
+  unused = λ e. absurd (cc);
   unread = λ e. absurd (cc);
   counts = d.counts;
   read = at_read files files' ending d.counts;
-  long = (λ e. (refl, at_long files files' ending d.long e), λ h. from_long files files' ending d.long h.1);
+  long = λ e. (refl, at_long files files' ending d.long e);
+  too_long = λ some long. inl (from_long files files' ending d.long long);
   complete = λ t no_fault no_sink.
-      let P : Contents → Type 0 = λ seen. (status_by ending ≡ status_by (task_in (Some command) seen)) ⊎ (status_by ending ≡ 7) in
+      let P : Contents → Type 0 = λ seen. IsStatusOf (task_in (Some command) seen) (status_by ending) ⊎ (status_by ending ≡ 7) in
       subst P (all_seen files files' _ d.seen no_fault (d.sees t)) (due_status ending (task_in (Some command) d.seen) out out' no_sink d.ends);
 }

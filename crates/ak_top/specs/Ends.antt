@@ -1,17 +1,20 @@
 -- How a command ends: with the text that it was to write, or with a trouble.
 use Rattle.std.specs.Prelude.{◌≡◌, ℕ, ◌++◌, ◌⊎◌, IsTrue, List, Some, Result, Ok, Err, codes, nat_lt}
 use Rattle.hex.specs.Hex.{encode_lower}
-use Rattle.ak_core.specs.Journal.{Journal}
+use Rattle.ak_core.specs.Layout.{Layout}
 use Rattle.ak_outside.specs.Causes.{one_more}
 use Rattle.ak_outside.specs.Taken.{with_more, TakesFront}
 use Rattle.ak_image.specs.Built.{digest_of}
-use Rattle.ak_top.specs.Words.{Command}
+use Rattle.ak_report.specs.Report.{report}
+use Rattle.ak_run.specs.Runs.{RunParts}
+use Rattle.ak_words.specs.Asked.{AskedTexts}
 use Rattle.ak_top.specs.Seen.{FilesState, SinkState, Contents, contents_of, AreSeen}
 use Rattle.ak_top.specs.Inputs.{limit, Task, Report, Digest, signed, task_in}
 use Rattle.ak_top.specs.Reads.{CountsBy, is_too_long, AsksBy}
-use Rattle.ak_top.specs.Report.{report_of}
-use Rattle.ak_top.specs.Journals.{IsJournalOf}
+use Rattle.ak_top.specs.Served.{IsRunOf}
 use Rattle.ak_top.specs.declared.inputs.Inputs.{Inputs}
+use Rattle.ak_top.specs.declared.left.Left.{Left}
+use Rattle.ak_top.specs.declared.left.Left.TheVariants.{Nothing, Run}
 use Rattle.ak_top.specs.declared.trouble.Trouble.{Trouble}
 use Rattle.ak_top.specs.declared.trouble.Trouble.TheVariants.{Usage, WriteFailed, OutOfMemory}
 
@@ -19,17 +22,20 @@ use Rattle.ak_top.specs.declared.trouble.Trouble.TheVariants.{Usage, WriteFailed
 abbrev pub digest_text : List ℕ → List ℕ
 digest_text digest = encode_lower digest ++ codes "\n"
 
--- the text is the report of a sound journal of the inputs, or the measurement of the image
-abbrev pub IsTextOf : Task → List ℕ → Type 0
-IsTextOf (Report inputs) text = (journal : Journal) × IsJournalOf inputs journal × (text ≡ report_of journal)
-IsTextOf (Digest image) text = text ≡ digest_text (digest_of image)
+-- the text is the report of the journal of a run of the inputs, and that run is left; or it is the measurement of the image, and nothing
+-- is left
+abbrev pub IsTextOf : Task → Left → List ℕ → Type 0
+IsTextOf (Report layout inputs) (Run run) text = IsRunOf layout inputs run × (text ≡ report run.journal)
+IsTextOf (Digest image) Nothing text = text ≡ digest_text (digest_of image)
+IsTextOf (Report layout inputs) Nothing text = ⊥
+IsTextOf (Digest image) (Run run) text = ⊥
 
 -- the sink took a whole text that was to be written, without a fault
-pub record Writes (wanted : Result Task Trouble) (out out' : SinkState) : Type 0 where
+pub record Writes (wanted : Result Task Trouble) (left : Left) (out out' : SinkState) : Type 0 where
   pub task : Task
   pub due : wanted ≡ Ok task
   pub text : List ℕ
-  pub is : IsTextOf task text
+  pub is : IsTextOf task left text
   pub taken : out'.taken ≡ with_more out.taken text
   pub unfailed : out'.faults ≡ out.faults
 
@@ -37,8 +43,9 @@ pub record Writes (wanted : Result Task Trouble) (out out' : SinkState) : Type 0
 pub record WritesFront (wanted : Result Task Trouble) (out out' : SinkState) : Type 0 where
   pub task : Task
   pub due : wanted ≡ Ok task
+  pub left : Left
   pub text : List ℕ
-  pub is : IsTextOf task text
+  pub is : IsTextOf task left text
   pub taken : TakesFront out.taken out'.taken text
   pub failed : out'.faults ≡ one_more out.faults
 
@@ -53,13 +60,13 @@ EndsAt WriteFailed wanted out out' = WritesFront wanted out out'
 EndsAt OutOfMemory wanted out out' = out' ≡ out
 EndsAt trouble wanted out out' = Stops wanted trouble out out'
 
--- how it ends
-abbrev pub Ends : Result (Unit {0}) Trouble → Result Task Trouble → SinkState → SinkState → Type 0
-Ends (Ok u) wanted out out' = Writes wanted out out'
+-- how it ends, and what it leaves
+abbrev pub Ends : Result Left Trouble → Result Task Trouble → SinkState → SinkState → Type 0
+Ends (Ok left) wanted out out' = Writes wanted left out out'
 Ends (Err trouble) wanted out out' = EndsAt trouble wanted out out'
 
 -- what a command does
-pub record Does (command : Command) (files files' : FilesState) (out out' : SinkState) (ending : Result (Unit {0}) Trouble) : Type 0 where
+pub record Does (command : AskedTexts) (files files' : FilesState) (out out' : SinkState) (ending : Result Left Trouble) : Type 0 where
   pub seen : Contents
   pub sees : IsTrue files.tells → AreSeen files.faults files'.faults (contents_of files.content (Some command)) seen
   pub ends : Ends ending (task_in (Some command) seen) out out'
@@ -77,7 +84,7 @@ WritesText (Err WriteFailed) text out out' = TakesFront out.taken out'.taken tex
 WritesText (Err OutOfMemory) text out out' = out' ≡ out
 WritesText (Err trouble) text out out' = ⊥
 
--- what the run of inputs gave: a sound journal where the image's signer signed it, else why not; or memory ran out
-abbrev pub Runs : Result Journal Trouble → Inputs → Type 0
-Runs (Ok journal) inputs = (signed inputs ≡ Ok inputs) × IsJournalOf inputs journal
-Runs (Err trouble) inputs = (signed inputs ≡ Err trouble) ⊎ (trouble ≡ OutOfMemory)
+-- what the run of inputs gave: a run in this layout where the image's signer signed it, else why not; or memory ran out
+abbrev pub Runs : Result RunParts Trouble → Layout → Inputs → Type 0
+Runs (Ok run) layout inputs = (signed inputs ≡ Ok inputs) × IsRunOf layout inputs run
+Runs (Err trouble) layout inputs = (signed inputs ≡ Err trouble) ⊎ (trouble ≡ OutOfMemory)

@@ -1,14 +1,15 @@
 -- What a command's files say: the task that they give, or the first trouble.
 use Rattle.std.specs.Prelude.{ℕ, List, [], ◌∷◌, length, not, Option, Some, None, Result, Ok, Err, nat_le, if◌then◌else◌}
 use Rattle.std.specs.Result.{result_map_both}
-use Rattle.ak_core.specs.declared.moves.Move.{Move}
+use Rattle.ak_core.specs.Layout.{Layout}
 use Rattle.ak_measure.specs.Stages.{◌>>=◌}
 use Rattle.ak_measure.specs.Signers.{Signed, signers_of, knows, allows}
 use Rattle.ak_image.specs.Image.{Image}
 use Rattle.ak_image.specs.Reading.{image_of}
 use Rattle.ak_image.specs.Built.{digest_of}
-use Rattle.ak_script.specs.Script.{RefusedLine, script_of}
-use Rattle.ak_top.specs.Words.{Command, Run, Measure}
+use Rattle.ak_script.specs.Script.{RefusedLine, Script, script_of}
+use Rattle.ak_words.specs.Asked.{AskedTexts, Run, Measure}
+use Rattle.ak_top.specs.Layouts.{layout_for}
 use Rattle.ak_top.specs.Seen.{Contents}
 use Rattle.ak_top.specs.declared.inputs.Inputs.{Inputs}
 use Rattle.ak_top.specs.declared.trouble.Place.{Place}
@@ -35,7 +36,7 @@ abbrev pub bytes_in : Place → Option (List ℕ) → Result (List ℕ) Trouble
 bytes_in file None = Err (ReadFailed file)
 bytes_in file (Some bytes) = if nat_le (length bytes) limit then Ok bytes else Err (TooLong file)
 
--- the image, the signers and the moves of a file
+-- the image, the signers and the script of a file
 unfoldable pub image_in : Option (List ℕ) → Result Image Trouble
 image_in file = do
   bytes ← bytes_in place.Image file
@@ -46,8 +47,8 @@ signers_in file = do
   bytes ← bytes_in place.Signers file
   or_trouble SignersRefused (signers_of bytes)
 
-unfoldable pub moves_in : Option (List ℕ) → Result (List Move) Trouble
-moves_in file = do
+unfoldable pub script_in : Option (List ℕ) → Result Script Trouble
+script_in file = do
   bytes ← bytes_in place.Script file
   or_trouble script_trouble (script_of bytes)
 
@@ -58,7 +59,7 @@ abbrev pub inputs_in : Contents → Result Inputs Trouble
 inputs_in files = do
   image ← image_in files.image
   signers ← signers_in files.signers
-  script ← moves_in files.script
+  script ← script_in files.script
   Ok (record { image = image; signers = signers; script = script })
 
 -- the inputs, where the image's signer is known and signed its measurement (SDM volume 3D, "EINIT")
@@ -68,18 +69,18 @@ signed inputs =
     else if not (allows inputs.signers inputs.image.signer (digest_of inputs.image)) then Err NotSigned
     else Ok inputs
 
--- what a command is to write: the report of a run, or the measurement of an image
+-- what a command is to write: the report of a run of these inputs in this layout, or the measurement of an image
 pub data Task : Type 0 where
-  Report : (inputs : Inputs) → Task
+  Report : (layout : Layout) (inputs : Inputs) → Task
   Digest : (image : Image) → Task
 
 -- what a command is to write by what its files say, or the first trouble
-abbrev pub task_in : Option Command → Contents → Result Task Trouble
+abbrev pub task_in : Option AskedTexts → Contents → Result Task Trouble
 task_in None files = Err Usage
-task_in (Some (Run names)) files = do
+task_in (Some (Run asked)) files = do
   inputs ← inputs_in files
   built ← signed inputs
-  Ok (Report built)
+  Ok (Report (layout_for built.image asked) built)
 task_in (Some (Measure name)) files = do
   image ← image_in files.image
   Ok (Digest image)
@@ -92,7 +93,7 @@ where_well (Ok x) names = names
 where_well (Err trouble) names = []
 
 -- the names that a command asks for, in order: each where the files before it are accepted
-abbrev pub asked_in : Option Command → Contents → List (List ℕ)
+abbrev pub asked_in : Option AskedTexts → Contents → List (List ℕ)
 asked_in None files = []
 asked_in (Some (Run names)) files =
     names.image ∷ where_well (image_in files.image)

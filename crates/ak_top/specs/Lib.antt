@@ -1,13 +1,12 @@
-pub mod Words
-pub mod CommandGiven
 pub mod Refusals
 pub mod Trouble
 pub mod Seen
 pub mod Told
 pub mod Inputs
+pub mod Layouts
 pub mod Reads
-pub mod Report
-pub mod Faithful
-pub mod Journals
+pub mod Follows
+pub mod Served
+pub mod Sessions
 pub mod Ends
 pub mod TopCall

@@ -1,7 +1,7 @@
 -- What the reading of a file, or of a command's files, came to.
 use Rattle.std.specs.Prelude.{◌≡◌, ◌⊎◌, ℕ, Bool, true, false, IsTrue, List, [], ◌∷◌, ◌++◌, Option, Some, Result, Ok, Err, nat_lt}
 use Rattle.ak_outside.specs.Causes.{one_more}
-use Rattle.ak_top.specs.Words.{Command}
+use Rattle.ak_words.specs.Asked.{AskedTexts}
 use Rattle.ak_top.specs.Seen.{FilesState, Contents, contents_of, IsSeen, AreSeen}
 use Rattle.ak_top.specs.Inputs.{limit, asked_in}
 use Rattle.ak_top.specs.declared.trouble.Trouble.{Trouble}
@@ -81,20 +81,20 @@ pub record AsksFront (due asked asked' : List (List ℕ)) : Type 0 where
   pub more : asked' ≡ asked ++ front
 
 -- the names that were due were asked for
-abbrev pub AsksDue : Option Command → Contents → List (List ℕ) → List (List ℕ) → Type 0
+abbrev pub AsksDue : Option AskedTexts → Contents → List (List ℕ) → List (List ℕ) → Type 0
 AsksDue command seen asked asked' = asked' ≡ asked ++ asked_in command seen
 
 -- the same up to a trouble; where memory ran out, perhaps only the first of them
-abbrev pub AsksUpTo : Trouble → Option Command → Contents → List (List ℕ) → List (List ℕ) → Type 0
+abbrev pub AsksUpTo : Trouble → Option AskedTexts → Contents → List (List ℕ) → List (List ℕ) → Type 0
 AsksUpTo OutOfMemory command seen asked asked' = AsksFront (asked_in command seen) asked asked'
 AsksUpTo _ command seen asked asked' = AsksDue command seen asked asked'
 
-abbrev pub AsksBy : {A : Type 0} → Result A Trouble → Option Command → Contents → List (List ℕ) → List (List ℕ) → Type 0
+abbrev pub AsksBy : {A : Type 0} → Result A Trouble → Option AskedTexts → Contents → List (List ℕ) → List (List ℕ) → Type 0
 AsksBy (Ok x) command seen asked asked' = AsksDue command seen asked asked'
 AsksBy (Err trouble) command seen asked asked' = AsksUpTo trouble command seen asked asked'
 
 -- a command's files were asked for: what they say was given
-pub record Reads {A : Type 0} (said : Contents → Result A Trouble) (command : Command) (files files' : FilesState) (given : Result A Trouble) : Type 0 where
+pub record Reads {A : Type 0} (said : Contents → Result A Trouble) (command : AskedTexts) (files files' : FilesState) (given : Result A Trouble) : Type 0 where
   pub seen : Contents
   pub sees : IsTrue files.tells → AreSeen files.faults files'.faults (contents_of files.content (Some command)) seen
   pub due : IsDue (said seen) given

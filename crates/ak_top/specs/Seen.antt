@@ -3,7 +3,7 @@ use Rattle.std.specs.Prelude.{◌≡◌, ℕ, ◌⊎◌, Bool, List, Option, Som
 use Rattle.ak_outside.specs.Causes.{Rose}
 use Rattle.ak_outside.specs.declared.files.Files.{Ghosts as IsFiles}
 use Rattle.ak_outside.specs.declared.sink.Sink.{Ghosts as IsSink}
-use Rattle.ak_top.specs.Words.{Command, Run, Measure}
+use Rattle.ak_words.specs.Asked.{AskedTexts, Run, Measure}
 
 -- files at a moment: what is said of content and names counts only where they tell
 pub record FilesState : Type 0 where
@@ -34,7 +34,7 @@ pub record Contents : Type 0 where
   pub script : Option (List ℕ)
 
 -- what the names of a command hold
-abbrev pub contents_of : (List ℕ → Option (List ℕ)) → Option Command → Contents
+abbrev pub contents_of : (List ℕ → Option (List ℕ)) → Option AskedTexts → Contents
 contents_of content None = record { image = None; signers = None; script = None }
 contents_of content (Some (Run names)) = record { image = content names.image; signers = content names.signers; script = content names.script }
 contents_of content (Some (Measure image)) = record { image = content image; signers = None; script = None }

@@ -12,7 +12,7 @@ use Rattle.ak_measure.specs.declared.fault.SignersFault.{SignersFault}
 use Rattle.ak_measure.specs.declared.fault.SignersFault.TheVariants.{OutOfMemory as OutOfMemorySigners}
 use Rattle.ak_script.specs.declared.fault.ScriptFault.{ScriptFault}
 use Rattle.ak_script.specs.declared.fault.ScriptFault.TheVariants.{Refused, OutOfMemory as OutOfMemoryScript}
-use Rattle.ak_top.specs.Words.{Names, Command, Run, Measure}
+use Rattle.ak_words.specs.Asked.{RunTexts, AskedTexts, Run, Measure}
 use Rattle.ak_top.specs.Refusals.{image_refusal, page_of, signers_refusal, script_refusal}
 use Rattle.ak_top.specs.declared.trouble.Place.{Place}
 use Rattle.ak_top.specs.declared.trouble.Place.TheVariants.{Image, Signers, Script}
@@ -62,15 +62,15 @@ status_of OutOfMemory = 7
 status_of (TooLong place) = 8
 
 -- the name of a run's file
-abbrev pub name_in : Place → Names → List ℕ
-name_in Image names = names.image
-name_in Signers names = names.signers
-name_in Script names = names.script
+abbrev pub name_in : Place → RunTexts → List ℕ
+name_in Image run = run.image
+name_in Signers run = run.signers
+name_in Script run = run.script
 
 -- the name of a command's file; without a command there is none
-abbrev pub name_at : Place → Option Command → List ℕ
+abbrev pub name_at : Place → Option AskedTexts → List ℕ
 name_at place None = []
-name_at place (Some (Run names)) = name_in place names
+name_at place (Some (Run run)) = name_in place run
 name_at place (Some (Measure image)) = image
 
 -- the line's words before the place
@@ -87,7 +87,7 @@ head_of WriteFailed = codes "write failed"
 head_of OutOfMemory = codes "out of memory"
 
 -- the place: a file, a page of the image, or a line of the script
-abbrev pub place_of : Trouble → Option Command → List ℕ
+abbrev pub place_of : Trouble → Option AskedTexts → List ℕ
 place_of (ReadFailed place) command = name_at place command
 place_of (TooLong place) command = name_at place command
 place_of (ImageRefused fault) command = option_map_or (λ page. decimal page.0) (page_of fault) []
@@ -100,5 +100,5 @@ tail_of (ScriptRefused line why) = script_refusal why
 tail_of _ = codes "\n"
 
 -- the line that tells a trouble
-unfoldable pub line_of : Trouble → Option Command → List ℕ
+unfoldable pub line_of : Trouble → Option AskedTexts → List ℕ
 line_of trouble command = head_of trouble ++ place_of trouble command ++ tail_of trouble

@@ -1,18 +1,18 @@
 // What the files of a command say.
 ghost use Rattle.std.specs.Prelude.{◌≡◌, ◌≤◌, ℕ, List, IfOk, length};
 ghost use Rattle.std.specs.Result.{result_map_both};
-ghost use Rattle.ak_top.specs.CommandGiven.{names_given};
-ghost use Rattle.ak_top.specs.Words.{Run};
-ghost use Rattle.ak_top.specs.Inputs.{bytes_in, image_in, signers_in, moves_in, inputs_in};
+ghost use Rattle.ak_words.specs.Asked.{Run};
+ghost use Rattle.ak_words.specs.Lent.{run_texts};
+ghost use Rattle.ak_top.specs.Inputs.{bytes_in, image_in, signers_in, script_in, inputs_in};
 ghost use Rattle.ak_top.specs.Reads.{ReadsFile, Reads};
 ghost use Rattle.ak_top.specs.Seen.{files_at};
 
 use crate::trouble::{Place, Trouble};
-use crate::words::Names;
 use ak_image::Image;
 use ak_measure::Signers;
 use ak_outside::Files;
 use ak_script::Script;
+use ak_words::RunAsked;
 use std::alloc::Global;
 
 /// What a run needs, as its files say it.
@@ -66,7 +66,7 @@ fn read_signers<F: Files>(alloc: Global, name: &str, files: &mut F) -> Result<Si
 
 /// The script of a file.
 fn read_script<F: Files>(alloc: Global, name: &str, files: &mut F) -> Result<Script, Trouble>
-    ensures { ReadsFile moves_in name.now
+    ensures { ReadsFile script_in name.now
         (files_at F.Files files.old) (files_at F.Files files.new) result }
 {
     let bytes = read_file(alloc, Place::Script, name, files)?;
@@ -76,15 +76,15 @@ fn read_script<F: Files>(alloc: Global, name: &str, files: &mut F) -> Result<Scr
 /// The inputs of a run's files: the first trouble ends the reading.
 pub fn read_inputs<F: Files>(
     alloc: Global,
-    names: Names<'_>,
+    asked: RunAsked<'_>,
     files: &mut F,
 ) -> Result<Inputs, Trouble>
-    ensures { Reads inputs_in (Run (names_given names.entry))
+    ensures { Reads inputs_in (Run (run_texts asked.entry))
         (files_at F.Files files.old) (files_at F.Files files.new) result }
 {
-    let image = read_image(alloc, names.image, files)?;
-    let signers = read_signers(alloc, names.signers, files)?;
-    let script = read_script(alloc, names.script, files)?;
+    let image = read_image(alloc, asked.image, files)?;
+    let signers = read_signers(alloc, asked.signers, files)?;
+    let script = read_script(alloc, asked.script, files)?;
     Ok(Inputs {
         image,
         signers,

@@ -3,13 +3,12 @@
 #![tactic(auto)]
 
 mod inputs;
+mod left;
 mod measure;
-mod report;
 mod run;
 mod session;
 mod top;
 mod trouble;
-mod words;
 
-pub use report::report_text;
+pub use left::Left;
 pub use top::autarky;

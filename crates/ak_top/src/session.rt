@@ -1,119 +1,101 @@
-// A machine with its journal.
-ghost use Rattle.std.specs.Prelude.{◌≡◌, ◌+◌, ◌<◌, ◌≤◌, ◌^◌, ◌++◌, ◌∷◌, [], ℕ, List, None, IfOk, OnOk, OnErr, IsTrue, length};
-ghost use Rattle.std.specs.List.{list_all};
-ghost use Rattle.ak_core.specs.Journal.{SameLists};
-ghost use Rattle.ak_model.specs.Sound.Outputs.{shown_by};
-ghost use Rattle.ak_machine.specs.Served.{is_served};
-ghost use Rattle.ak_machine.specs.Built.{IsBuilt};
-ghost use Rattle.ak_machine.specs.State.{state_of, layout_of};
-ghost use Rattle.ak_machine.specs.Moves.{event_in};
-ghost use Rattle.ak_top.specs.Faithful.{Faithful};
-ghost use Rattle.ak_top.specs.Journals.{IsJournalOn};
+// A machine under a script: its moves, and those of the honest kernel.
+ghost use Rattle.std.specs.Prelude.{◌≡◌, ◌+◌, ◌<◌, ◌≤◌, ◌^◌, ◌++◌, ◌∷◌, [], ℕ, List, IfOk, OnOk, length};
+ghost use Rattle.ak_model.specs.Paging.Histories.{History};
+ghost use Rattle.ak_paged_machine.specs.Machines.{IsJustBuilt};
+ghost use Rattle.ak_run.specs.Runs.{Faithful};
+ghost use Rattle.ak_script.specs.Script.{moves_in};
+ghost use Rattle.ak_top.specs.Follows.{Drives, Follows, Makes, Moves, past_of};
+ghost use Rattle.ak_top.specs.Sessions.{IsSession};
 
-use ak_core::{Answer, Event, Exit, Journal, Layout, Move, OutOfMemory};
-use ak_machine::{Machine, ProgramNote, is_forbidden};
+use ak_core::{Move, OutOfMemory};
+use ak_driver::Driver;
+use ak_paged_machine::Machine;
+use ak_run::Run;
+use ak_script::{Item, Script};
 use std::alloc::Global;
 
-/// The vector of a page fault (SDM volume 3A, "Interrupt 14").
-const PAGE_FAULT: u8 = 14;
-
-/// A machine, and the journal of the moves that it was given.
+/// A run, and the honest kernel, which is told each of its moves.
 #[derive(Drop)]
-pub struct Session {
-    /// The machine.
-    pub machine: Machine,
-    /// What happened.
-    pub journal: Journal,
-    /// The program's completed instructions.
-    pub count: u64,
-    ghost counted: { count ≡ (state_of machine).count },
-}
-
-/// The output that an answer shows.
-fn output_of(answer: Answer) -> Option<u64>
-    ensures { result ≡ shown_by answer }
-{
-    match answer {
-        Answer::Exit(Exit::Call(1, argument)) => Some(argument),
-        _ => None,
-    }
-}
-
-/// The event that a note stands for, where so many instructions are complete after it: a denied access is a page fault of
-/// the program's own.
-fn event_of(layout: &Layout, note: ProgramNote, count: u64) -> Option<Event>
-    ensures { result ≡ event_in layout.now note count }
-{
-    match note {
-        ProgramNote::Plain => None,
-        ProgramNote::Called(number, argument) => {
-            Some(Event::Call(count.saturating_sub(1), number, argument))
-        }
-        ProgramNote::Trapped(vector) => Some(Event::Trap(count, vector)),
-        ProgramNote::Faulted(access) if is_forbidden(layout, access) => {
-            Some(Event::Trap(count, PAGE_FAULT))
-        }
-        ProgramNote::Faulted(_) => Some(Event::Break(count)),
-    }
+struct Session {
+    run: Run,
+    driver: Driver,
 }
 
 impl Session {
     /// The machine at the end of a build, with the empty journal.
-    pub fn begin(alloc: Global, machine: Machine) -> Session
-        requires { (state_of machine).count ≡ 0 }
-        ensures layout { layout_of result.machine ≡ layout_of machine }
-        ensures faithful { (program : List ℕ) → IsBuilt (layout_of machine) program (state_of machine) →
-            Faithful (layout_of machine) program (state_of result.machine) result.journal }
-        ensures moves { result.journal.moves ≡ [] }
-        ensures count { result.count ≡ 0 }
+    fn begin(alloc: Global, machine: Machine) -> Result<Session, OutOfMemory>
+        requires handles { length machine.encls.handles.sealed_pages < 2 ^ 31 }
+        requires cycles { machine.encls.track.cycles < 2 ^ 62 }
+        ensures layout { IfOk result (λ session. session.run.machine.layout ≡ machine.layout) }
+        ensures moves { IfOk result (λ session. session.run.journal.moves ≡ []) }
+        ensures past { IfOk result (λ session. past_of session.run.journal ≡ []) }
+        ensures stands { (image : List ℕ) → IsJustBuilt image machine → IfOk result (IsSession image) }
     {
-        Session {
-            machine,
-            journal: Journal::new(alloc),
-            count: 0,
-        }
+        let driver = Driver::new(alloc, machine.layout())?;
+        let run = Run::new(alloc, machine)?;
+        Ok(Session { run, driver })
     }
 
-    /// Applies a move and writes it into the journal. Where memory runs out, nothing is applied.
-    pub fn apply(&mut self, m: Move) -> Result<(), OutOfMemory>
-        requires served { IsTrue (is_served (layout_of self.old.machine) m) }
-        requires room { self.old.count + 1000000 < 2 ^ 64 }
-        ensures layout { layout_of self.new.machine ≡ layout_of self.old.machine }
-        ensures faithful { (image : List ℕ) →
-            Faithful (layout_of self.old.machine) image (state_of self.old.machine) self.old.journal →
-            Faithful (layout_of self.old.machine) image (state_of self.new.machine) self.new.journal }
-        ensures moves { OnOk result (self.new.journal.moves ≡ self.old.journal.moves ++ m ∷ []) }
-        ensures unchanged { OnErr result (SameLists self.old.journal self.new.journal) }
-        ensures same { OnErr result (state_of self.new.machine ≡ state_of self.old.machine) }
-        ensures count { self.new.count ≤ self.old.count + 1000000 }
+    /// Applies a move, and tells the honest kernel of it.
+    fn apply(&mut self, m: Move) -> Result<(), OutOfMemory>
+        requires { length self.old.run.journal.moves < 2 ^ 31 }
+        ensures layout { self.new.run.machine.layout ≡ self.old.run.machine.layout }
+        ensures moves { OnOk result (length self.new.run.journal.moves ≡ length self.old.run.journal.moves + 1) }
+        ensures stands { (image : List ℕ) → IsSession image self.old → OnOk result (IsSession image self.new) }
+        ensures next { (image : List ℕ) → IsSession image self.old
+            → OnOk result (Moves m (λ past. past_of self.new.run.journal ≡ past) (past_of self.old.run.journal)) }
     {
-        self.journal.reserve()?;
-        let applied = self.machine.apply(&m);
-        self.count += applied.completed;
-        let event = event_of(self.machine.layout(), applied.program, self.count);
-        self.journal
-            .append(m, applied.answer, event, output_of(applied.answer), None);
+        let answer = self.run.apply(&m)?;
+        self.driver.note(&m, &answer);
         Ok(())
+    }
+
+    /// Applies up to so many moves of the honest kernel, with these inputs for the program.
+    fn drive(&mut self, most: u32, inputs: &[u64]) -> Result<(), OutOfMemory>
+        requires { length self.old.run.journal.moves + most < 2 ^ 31 }
+        ensures layout { self.new.run.machine.layout ≡ self.old.run.machine.layout }
+        ensures moves { OnOk result (length self.new.run.journal.moves ≤ length self.old.run.journal.moves + most) }
+        ensures stands { (image : List ℕ) → IsSession image self.old → OnOk result (IsSession image self.new) }
+        ensures drives { (image : List ℕ) → IsSession image self.old
+            → OnOk result (Drives self.old.run.machine.layout inputs.now most (past_of self.old.run.journal) (past_of self.new.run.journal)) }
+    {
+        for _ in 0..most {
+            let Some(m) = self.driver.next(self.run.machine().layout(), inputs) else {
+                return Ok(());
+            };
+            self.apply(m)?;
+        }
+        Ok(())
+    }
+
+    /// Does what an item says.
+    fn take(&mut self, item: Item, inputs: &[u64]) -> Result<(), OutOfMemory>
+        requires { length self.old.run.journal.moves + moves_in item < 2 ^ 31 }
+        ensures layout { self.new.run.machine.layout ≡ self.old.run.machine.layout }
+        ensures moves { OnOk result (length self.new.run.journal.moves ≤ length self.old.run.journal.moves + moves_in item) }
+        ensures stands { (image : List ℕ) → IsSession image self.old → OnOk result (IsSession image self.new) }
+        ensures makes { (image : List ℕ) → IsSession image self.old
+            → OnOk result (Makes self.old.run.machine.layout inputs.now item (past_of self.old.run.journal) (past_of self.new.run.journal)) }
+    {
+        match item {
+            Item::Move(m) => self.apply(m),
+            Item::Auto(most) => self.drive(most, inputs),
+        }
     }
 }
 
-/// Applies these moves to a machine from its build on. The journal agrees with the program over memory that is never paged,
-/// its answers are a function of the layout, the moves and the events, and walks account for what the program accessed.
-pub fn run_moves(alloc: Global, machine: Machine, moves: &[Move]) -> Result<Journal, OutOfMemory>
-    requires start { (state_of machine).count ≡ 0 }
-    requires served { IsTrue (list_all (is_served (layout_of machine)) moves.now) }
-    requires few { length moves.now < 2 ^ 31 }
-    ensures { (program : List ℕ) → IsBuilt (layout_of machine) program (state_of machine) →
-        IfOk result (IsJournalOn (layout_of machine) program moves.now) }
+/// Applies a script's moves to a machine from its build on.
+pub fn run_script(alloc: Global, machine: Machine, script: &Script) -> Result<Run, OutOfMemory>
+    requires handles { length machine.encls.handles.sealed_pages < 2 ^ 31 }
+    requires cycles { machine.encls.track.cycles < 2 ^ 62 }
+    ensures layout { IfOk result (λ run. run.machine.layout ≡ machine.layout) }
+    ensures follows { (image : List ℕ) → IsJustBuilt image machine → IfOk result (λ run. Follows machine.layout script.now run.journal) }
+    ensures faithful { (image : List ℕ) → IsJustBuilt image machine → IfOk result (Faithful image) }
 {
-    let mut session = Session::begin(alloc, machine);
-    for m in moves {
-        session.apply(*m)?;
+    let mut session = Session::begin(alloc, machine)?;
+    for item in script.items() {
+        session.take(*item, script.inputs())?;
     }
-    let Session {
-        machine: _,
-        journal,
-        count: _,
-    } = session;
-    Ok(journal)
+    let Session { run, driver: _ } = session;
+    Ok(run)
 }

@@ -1,58 +1,69 @@
 // The whole program, over the files and sinks that are handed in.
 ghost use Rattle.std.specs.Prelude.{map, string_bytes};
-ghost use Rattle.ak_top.specs.CommandGiven.{command_given};
 ghost use Rattle.ak_top.specs.Ends.{Does};
 ghost use Rattle.ak_top.specs.Seen.{files_at, sink_at};
 ghost use Rattle.ak_top.specs.TopCall.{Serves};
-ghost use Rattle.ak_top.specs.Words.{words_of};
+ghost use Rattle.ak_words.specs.Asked.{words_of};
+ghost use Rattle.ak_words.specs.Lent.{asked_of, AskedInRanges};
 
+use crate::left::Left;
 use crate::measure::measure_command;
 use crate::run::run_command;
 use crate::trouble::{Trouble, tell};
-use crate::words::{Command, read_words};
 use ak_outside::{Files, Sink};
+use ak_words::{Asked, read_words};
 use std::alloc::Global;
 
 /// Does what a command asks for.
 fn do_command<F: Files, O: Sink>(
     alloc: Global,
-    command: Command<'_>,
+    command: Asked<'_>,
     files: &mut F,
     out: &mut O,
-) -> Result<(), Trouble>
-    ensures { Does (command_given command.entry)
+) -> Result<Left, Trouble>
+    requires { AskedInRanges command }
+    ensures { Does (asked_of command.entry)
         (files_at F.Files files.old) (files_at F.Files files.new)
         (sink_at O.Sink out.old) (sink_at O.Sink out.new) result }
 {
     match command {
-        Command::Run(names) => run_command(alloc, names, files, out),
-        Command::Measure(image) => measure_command(alloc, image, files, out),
+        Asked::Run(asked) => run_command(alloc, asked, files, out),
+        Asked::Measure(image) => measure_command(alloc, image, files, out),
     }
 }
 
-/// The whole program: the words after its name, the files, and the two sinks; it gives the status.
+/// The whole program: the words after its name, the files, and the two sinks; it gives the status, and what it leaves.
 ///
-/// `run IMAGE SIGNERS SCRIPT` applies the script's moves to the image's enclave and writes the report to `out`, and
-/// `measure IMAGE` writes the image's measurement. Status 0: the text was written. 2: the words give no command. 3: the image
-/// or the signers are refused, or the image is not signed. 4: the script is refused. 5: a file could not be read. 6: the text
-/// could not be written. 7: memory ran out. 8: a file is too long. At each but 0, `err` gets its line.
+/// `run IMAGE SIGNERS SCRIPT [--frames N] [--processors N]` applies the script's moves to the image's enclave and writes the report
+/// to `out`, and `measure IMAGE` writes the image's measurement. Status 0: the text was written. 10: the report was written, and the
+/// enclave stopped. 2: the words give no command. 3: the image or the signers are refused, or the image is not signed. 4: the script is
+/// refused. 5: a file could not be read. 6: the text could not be written. 7: memory ran out. 8: a file is too long. At each but 0 and
+/// 10, `err` gets its line. Where a report was written, its run is left, and else nothing.
 pub fn autarky<F: Files, O: Sink, E: Sink>(
     alloc: Global,
     words: &[String],
     files: &mut F,
     out: &mut O,
     err: &mut E,
+    left: &mut Left,
 ) -> u8
     ensures { Serves result (words_of (map string_bytes words.now))
         (files_at F.Files files.old) (files_at F.Files files.new)
         (sink_at O.Sink out.old) (sink_at O.Sink out.new)
-        (sink_at E.Sink err.old) (sink_at E.Sink err.new) }
+        (sink_at E.Sink err.old) (sink_at E.Sink err.new) left.new }
 {
-    let Some(command) = read_words(words) else {
-        return tell(err, Trouble::Usage, None);
+    *left = Left::Nothing;
+    let command = match read_words(alloc, words) {
+        Ok(Some(command)) => command,
+        Ok(None) => return tell(err, Trouble::Usage, None),
+        Err(fault) => return tell(err, Trouble::from(fault), None),
     };
     match do_command(alloc, command, files, out) {
-        Ok(()) => 0,
+        Ok(done) => {
+            let status = done.status();
+            *left = done;
+            status
+        }
         Err(trouble) => tell(err, trouble, Some(command)),
     }
 }

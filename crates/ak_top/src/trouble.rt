@@ -3,21 +3,21 @@ ghost use Rattle.std.specs.Prelude.{◌≡◌, ◌++◌, OnOk, OnErr, Some, None
 ghost use Rattle.std.specs.Option.{option_map};
 ghost use Rattle.ak_outside.specs.Causes.{Counts};
 ghost use Rattle.ak_outside.specs.Taken.{with_more, TakesFront};
-ghost use Rattle.ak_top.specs.CommandGiven.{command_given};
+ghost use Rattle.ak_words.specs.Asked.{Run as RunCommand};
+ghost use Rattle.ak_words.specs.Lent.{asked_of, run_texts};
 ghost use Rattle.ak_top.specs.Refusals.{image_refusal, signers_refusal, script_refusal, page_of as the_page};
 ghost use Rattle.ak_top.specs.Seen.{sink_at};
 ghost use Rattle.ak_top.specs.Told.{Told};
 ghost use Rattle.ak_top.specs.declared.trouble.Trouble.TheVariants.{WriteFailed, OutOfMemory as NoMemory};
 ghost use Rattle.ak_top.specs.Trouble.{trouble_of_read, trouble_of_image, trouble_of_signers, trouble_of_script, trouble_of_build, status_of, name_at, head_of, place_of, tail_of, line_of};
 
-use crate::words::{Command, Names};
 use ak_core::{BuildFault, OutOfMemory, Page};
 use ak_image::ImageFault;
 use ak_measure::SignersFault;
 use ak_outside::{FilesFault, Sink, SinkFault, write_three, write_two};
 use ak_script::{Refusal, ScriptFault};
+use ak_words::{Asked, RunAsked};
 use itoa::Buffer;
-use std::alloc::AllocError;
 
 const USAGE: &str =
     "usage: autarky run IMAGE SIGNERS SCRIPT [--frames N] [--processors N] or measure IMAGE or demo NUMBER";
@@ -164,20 +164,11 @@ impl From<SinkFault> for Trouble {
     }
 }
 
-/// A move for which there is no memory.
+/// Words, or a move, for which there is no memory.
 impl From<OutOfMemory> for Trouble {
     ghost from_gives = { λ _ trouble. trouble ≡ NoMemory };
 
     fn from(_: OutOfMemory) -> Trouble {
-        Trouble::OutOfMemory
-    }
-}
-
-/// A text for which there is no memory.
-impl From<AllocError> for Trouble {
-    ghost from_gives = { λ _ trouble. trouble ≡ NoMemory };
-
-    fn from(_: AllocError) -> Trouble {
         Trouble::OutOfMemory
     }
 }
@@ -226,28 +217,28 @@ fn page_of(fault: ImageFault) -> Option<Page>
     }
 }
 
-fn name_of_run<'a>(place: Place, names: Names<'a>) -> &'a str
-    ensures { result.now ≡ name_at place (Some (command_given (Command.Run names.entry))) }
+fn name_of_run<'a>(place: Place, run: RunAsked<'a>) -> &'a str
+    ensures { result.now ≡ name_at place (Some (RunCommand (run_texts run.entry))) }
 {
     match place {
-        Place::Image => names.image,
-        Place::Signers => names.signers,
-        Place::Script => names.script,
+        Place::Image => run.image,
+        Place::Signers => run.signers,
+        Place::Script => run.script,
     }
 }
 
-fn name_of<'a>(place: Place, command: Option<Command<'a>>) -> &'a str
-    ensures { result.now ≡ name_at place (option_map command_given command.entry) }
+fn name_of<'a>(place: Place, command: Option<Asked<'a>>) -> &'a str
+    ensures { result.now ≡ name_at place (option_map asked_of command.entry) }
 {
     match command {
         None => "",
-        Some(Command::Run(names)) => name_of_run(place, names),
-        Some(Command::Measure(image)) => image,
+        Some(Asked::Run(run)) => name_of_run(place, run),
+        Some(Asked::Measure(image)) => image,
     }
 }
 
-fn place_text<'a>(buffer: &'a mut Buffer, trouble: Trouble, command: Option<Command<'a>>) -> &'a str
-    ensures { result.now ≡ place_of trouble (option_map command_given command.entry) }
+fn place_text<'a>(buffer: &'a mut Buffer, trouble: Trouble, command: Option<Asked<'a>>) -> &'a str
+    ensures { result.now ≡ place_of trouble (option_map asked_of command.entry) }
 {
     match trouble {
         Trouble::ScriptRefused(line, _) => buffer.format(line),
@@ -290,10 +281,10 @@ fn write_tail<E: Sink>(err: &mut E, trouble: Trouble) -> Result<(), SinkFault>
 fn write_line<E: Sink>(
     err: &mut E,
     trouble: Trouble,
-    command: Option<Command<'_>>,
+    command: Option<Asked<'_>>,
 ) -> Result<(), SinkFault>
-    ensures ok { OnOk result (E.taken err.new ≡ with_more (E.taken err.old) (line_of trouble (option_map command_given command.entry))) }
-    ensures err { OnErr result (TakesFront (E.taken err.old) (E.taken err.new) (line_of trouble (option_map command_given command.entry))) }
+    ensures ok { OnOk result (E.taken err.new ≡ with_more (E.taken err.old) (line_of trouble (option_map asked_of command.entry))) }
+    ensures err { OnErr result (TakesFront (E.taken err.old) (E.taken err.new) (line_of trouble (option_map asked_of command.entry))) }
     ensures count { Counts (E.faults err.old) (E.faults err.new) result }
 {
     let mut buffer = Buffer::new();
@@ -304,8 +295,8 @@ fn write_line<E: Sink>(
 }
 
 /// Tells a trouble by its line, as far as the sink takes it, and gives its status.
-pub fn tell<E: Sink>(err: &mut E, trouble: Trouble, command: Option<Command<'_>>) -> u8
-    ensures line { Told (sink_at E.Sink err.old) (sink_at E.Sink err.new) (line_of trouble (option_map command_given command.entry)) }
+pub fn tell<E: Sink>(err: &mut E, trouble: Trouble, command: Option<Asked<'_>>) -> u8
+    ensures line { Told (sink_at E.Sink err.old) (sink_at E.Sink err.new) (line_of trouble (option_map asked_of command.entry)) }
     ensures status { result ≡ status_of trouble }
 {
     let _ = write_line(err, trouble, command);

@@ -1,7 +1,5 @@
-//! Tests of `ak_top`: the program over files and sinks in memory, case by case, and reports of journals.
+//! Tests of `ak_top`: what a call leaves. The tables of calls stand in the program `cases`.
 #![tactic(auto)]
 
 #[cfg(test)]
-mod calls;
-#[cfg(test)]
-mod report;
+mod left;

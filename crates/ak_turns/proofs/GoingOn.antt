@@ -11,7 +11,7 @@ use Rattle.ak_model.specs.Paging.Histories.{History}
 use Rattle.ak_model.specs.Control.ControlState.{Context, Program, Enter, Probe, Finish, Guard, Leave, Denied, Raised, Control}
 use Rattle.ak_model.specs.Control.EventTurn.{due, leave_program, event_turn}
 use Rattle.ak_model.specs.Control.OneTurn.{Turn, Goes, Leaves}
-use Rattle.ak_model.specs.Control.RuntimeTurn.{accesses, step_fault, shown_fault, leave_call, unless_fault}
+use Rattle.ak_model.specs.Control.RuntimeTurn.{accesses, first_fault, shown_fault, leave_call, unless_fault}
 use Rattle.ak_model.specs.Control.Runs.{turn_of}
 use Rattle.ak_model.specs.Tapes.ProgramTurns.{ProgramTurn, turn_at, turn_in}
 use Rattle.ak_model.proofs.Paging.Tests.{either_way}
@@ -104,7 +104,7 @@ module _ (layout : Layout) (control : Control) where
   leaves_by : (past : History) (b a : ℕ) (after : Control) (exit : Option Exit) → turn_of layout past control (Some (Leave b a)) ≡ turn_to exit after → is_some exit ≡ true
   leaves_by past b a after (Some exit) turned = refl
   leaves_by past b a after None turned =
-      let wrong : false ≡ true = sym (ap is_left turned) ∙ step_leaves b a (step_fault layout past (accesses layout control (Leave b a))) in cc
+      let wrong : false ≡ true = sym (ap is_left turned) ∙ step_leaves b a (first_fault layout past (accesses layout control (Leave b a))) in cc
 
 -- a turn at the leave step leaves
 pub leaves : (layout : Layout) (lp : ℕ) (past : History) (control after : Control) (exit : Option Exit) (made : List ProgramTurn) (b a : ℕ) →

@@ -1,5 +1,5 @@
 -- Turns, one after another, lead to a run: one more turn goes on with those before it, and the last one ends the run.
-use Rattle.std.proofs.Common.{◌≡◌, ℕ, suc, ◌+◌, ◌-◌, ◌<◌, Bool, true, false, List, [], ◌++◌, refl, ap, sym, ◌∙◌, subst, arith}
+use Rattle.std.proofs.Common.{◌≡◌, inl, inr, ℕ, suc, ◌+◌, ◌-◌, ◌<◌, Bool, true, false, List, [], ◌++◌, refl, ap, sym, ◌∙◌, subst, arith}
 use Rattle.std.proofs.lemmas.Bool.Decides.{nat_tests}
 use Rattle.std.specs.Prelude.{Option, Some, None, is_some, nat_lt, if◌then◌else◌}
 use Rattle.ak_core.specs.Layout.{Layout}
@@ -18,16 +18,18 @@ use Rattle.ak_pte.specs.declared.table.Pte.{Pte}
 use Rattle.ak_tlb.specs.declared.translation.Translation.{Translation}
 use Rattle.ak_relation.proofs.Runs.WholeRuns.{still_moves, exit_moves}
 use Rattle.ak_relation.proofs.Runs.NamedMoves.{still_names, exit_names}
+use Rattle.ak_relation.specs.Program.FaultedTurns.{fault_event}
 use Rattle.ak_relation.specs.Program.Turns.{listed, events_by}
 use Rattle.ak_relation.specs.Relation.Causes.{NamesCause}
 use Rattle.ak_relation.specs.Relation.Does.{GoesTo, IsTurn, TurnFollows, at_moment, past_after, with_rest}
+use Rattle.ak_relation.specs.Relation.Tells.{TellsTurn}
 use Rattle.ak_relation.specs.Relation.TurnByTurn.{AreTurns}
 use Rattle.ak_relation.specs.State.MachineState.{State}
 use Rattle.ak_encls.specs.Enclave.{Enclave}
 use Rattle.ak_enclu.specs.Machines.{IsMachine}
 use Rattle.ak_enclu.specs.declared.cpu.Cpu.{Cpu}
 use Rattle.ak_memory.specs.declared.memory.Memory.{Memory}
-use Rattle.ak_turns.specs.Running.{Runs, TellsOf, TurnKeeps, TurnsTo, completed_in, event_of, fault_event, outcome_of}
+use Rattle.ak_turns.specs.Running.{Runs, TellsOf, TurnKeeps, TurnsTo, completed_in, event_of, fault_in, outcome_of}
 use Rattle.ak_turns.specs.WholeRuns.{GoesWith, RunsSoFar, RunsTo, RunsWith, StillRuns, event_after, note_or}
 use Rattle.ak_turns.specs.declared.notes.ProgramNote.{ProgramNote}
 use Rattle.ak_turns.specs.declared.notes.Ran.{Ran}
@@ -37,10 +39,19 @@ use Rattle.ak_turns.proofs.GoingOn.{GoesAs, goes_on, leaves, leave_is_quiet}
 
 -- ---- Events
 
--- nothing else was shown where the note of the turns before is that of a call; nothing is completed where the processor leaves
+-- nothing else was shown where the note of the turns before is that of a call, and that is of no fault; nothing is completed where the
+-- processor leaves
 pub record Follows (note : ProgramNote) (turned : Turned) : Type 0 where
+  pub earlier : fault_in note ≡ None
   pub told : TellsOf turned.program turned.completed
   pub one : (note ≡ ProgramNote.Plain → ⊥) → (turned.program ≡ ProgramNote.Plain) × (turned.completed ≡ false)
+
+-- the fault that was shown last is that of the last turn, if those before it showed none
+last_fault : (note program : ProgramNote) → fault_in note ≡ None → fault_in program ≡ fault_in (note_or program note)
+last_fault note ProgramNote.Plain none = sym none
+last_fault note (ProgramNote.Called b a) none = refl
+last_fault note (ProgramNote.Trapped v) none = refl
+last_fault note (ProgramNote.Faulted t) none = refl
 
 module _ (layout : Layout) (queue : List ℕ) (count count' : ℕ) where
   -- the event of the turn, as it is told after it
@@ -85,6 +96,16 @@ module _ (layout : Layout) (queue : List ℕ) (count count' : ℕ) where
   both_events (ProgramNote.Faulted t) program completed told one is = quiet_after (ProgramNote.Faulted t) program completed (one (λ e. cc)) is refl
 
 -- ---- The witness
+
+-- turns that go on show no fault
+pub no_fault_yet : (layout : Layout) (note : ProgramNote) (cpu : Cpu) (memory : Memory) → RunsWith layout note cpu memory → fault_in note ≡ None
+no_fault_yet layout note cpu memory w = by_note note w.goes
+  where
+    by_note : (n : ProgramNote) → GoesWith n w.runs.control.now → fault_in n ≡ None
+    by_note ProgramNote.Plain goes = refl
+    by_note (ProgramNote.Called b a) goes = refl
+    by_note (ProgramNote.Trapped v) goes = absurd goes
+    by_note (ProgramNote.Faulted t) goes = absurd goes
 
 module _ (layout : Layout) (note : ProgramNote) (cpu cpu' : Cpu) (memory memory' : Memory) (turned : Turned) (w : RunsWith layout note cpu memory)
     (to : TurnsTo layout cpu.lp.0 w.runs.state turned cpu' memory') where
@@ -157,7 +178,7 @@ module _ (layout : Layout) (note : ProgramNote) (cpu cpu' : Cpu) (memory memory'
 
   -- where the processor leaves nothing is completed: so the turn follows the note before
   pub follows : TellsOf turned.program turned.completed → (is_some turned.exit ≡ true → turned.completed ≡ false) → Follows note turned
-  follows told left = record { told = told; one = λ shown. by_note note refl shown }
+  follows told left = record { earlier = no_fault_yet layout note cpu memory w; told = told; one = λ shown. by_note note refl shown }
     where
       by_note : (n : ProgramNote) → note ≡ n → (note ≡ ProgramNote.Plain → ⊥) → (turned.program ≡ ProgramNote.Plain) × (turned.completed ≡ false)
       by_note ProgramNote.Plain is shown = absurd (shown is)
@@ -216,21 +237,35 @@ module _ (layout : Layout) (lp : Lp) (taken completed : ℕ) (note : ProgramNote
         count = count_after;
         move = exit_moves layout lp old known in_use taken all so_far.new to.new exit (event_after layout old.queue so_far.new.count note) second event lt so_far.turns turn both;
         cause = exit_names layout lp old known in_use taken all so_far.new to.new exit (event_after layout old.queue so_far.new.count note) second event (outcome_of turned.runtime) lt so_far.turns named both;
+        notes = inr (record {
+          known = known;
+          in_use = in_use;
+          before = taken;
+          fewer = lt;
+          mid = so_far.new;
+          first = event_after layout old.queue so_far.new.count note;
+          second = second;
+          turns = so_far.turns;
+          turn = named;
+          both = both;
+          tells = subst (λ (noted : Option Access). TellsTurn layout lp.0 so_far.new second noted (outcome_of turned.runtime)) (last_fault note turned.program f.earlier) to.notes;
+        });
       } in
       subst (λ (r : Ran). RunsTo layout lp all old r (record cpu' { tlb = memory'.tlb }) memory'.table memory'.encls) (sym is) done
 
 -- ---- All turns used up
 
 pub all_taken : (layout : Layout) (lp : Lp) (all completed : ℕ) (note : ProgramNote) (old : State) (cpu : Cpu) (memory : Memory) → RunsSoFar layout lp.0 all old completed note cpu memory →
-    nat_lt lp.0 layout.lps ≡ true → (old.processors lp.0).inside ≡ true →
+    fault_in note ≡ None → nat_lt lp.0 layout.lps ≡ true → (old.processors lp.0).inside ≡ true →
     RunsTo layout lp all old (record { exit = Exit.Still; completed = completed; program = note; runtime = RuntimeNote.Quiet }) (record cpu { tlb = memory.tlb }) memory.table memory.encls
-all_taken layout lp all completed note old cpu memory so_far known in_use = record {
+all_taken layout lp all completed note old cpu memory so_far none known in_use = record {
   new = so_far.new;
   machine = so_far.machine;
   others = so_far.others;
   count = so_far.count;
   move = still_moves layout lp old known in_use all so_far.new (event_after layout old.queue so_far.new.count note) so_far.turns;
   cause = still_names layout lp old known in_use all so_far.new (event_after layout old.queue so_far.new.count note) so_far.turns;
+  notes = inl (record { still = refl; turns = so_far.turns; quiet = record { no_fault = none; no_step = refl } });
 }
 
 -- ---- The processor

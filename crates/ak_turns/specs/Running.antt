@@ -4,19 +4,18 @@ use Rattle.std.specs.Prelude.{◌≡◌, ℕ, ◌+◌, Bool, true, false, List, 
 use Rattle.ak_core.specs.Layout.{Layout}
 use Rattle.ak_core.specs.Mem.{Access}
 use Rattle.ak_core.specs.declared.event.Event.{Event}
-use Rattle.ak_core.specs.declared.event.Event.TheVariants.{Break, Call, Miss, Trap}
+use Rattle.ak_core.specs.declared.event.Event.TheVariants.{Call, Trap}
 use Rattle.ak_core.specs.declared.moves.Exit.{Exit}
-use Rattle.ak_model.specs.Clusters.Queue.{is_in}
 use Rattle.ak_model.specs.Control.ControlState.{Control}
-use Rattle.ak_model.specs.Flat.FlatRuns.{is_forbidden}
 use Rattle.ak_model.specs.Paging.Histories.{History}
 use Rattle.ak_model.specs.Paging.Inside.{inside}
-use Rattle.ak_model.specs.Paging.Pages.{cluster_at}
 use Rattle.ak_model.specs.Tapes.ProgramTurns.{ProgramTurn}
 use Rattle.ak_pager.specs.declared.turn.RtTurn.{RtTurn}
+use Rattle.ak_relation.specs.Program.FaultedTurns.{fault_event}
 use Rattle.ak_relation.specs.Relation.Causes.{NamesCause}
 use Rattle.ak_relation.specs.Relation.Does.{IsTurn, at_moment}
 use Rattle.ak_relation.specs.Relation.Stands.{Stands}
+use Rattle.ak_relation.specs.Relation.Tells.{TellsTurn}
 use Rattle.ak_relation.specs.State.MachineState.{State}
 use Rattle.ak_enclu.specs.Machines.{IsMachine}
 use Rattle.ak_enclu.specs.declared.cpu.Cpu.{Cpu}
@@ -44,18 +43,17 @@ pub record Runs (layout : Layout) (cpu : Cpu) (memory : Memory) : Type 0 where
 
 -- ---- What a turn tells
 
--- the event of an access that faulted, by the clusters that are in
-abbrev pub fault_event : Layout → List ℕ → ℕ → Access → Event
-fault_event layout queue count t =
-    if is_forbidden layout t then Trap count 14
-    else (if is_in queue (cluster_at layout t.page.0) then Break count else Miss count (cluster_at layout t.page.0))
-
 -- the event that the program showed, after so many completed instructions
 abbrev pub event_of : Layout → List ℕ → ℕ → ProgramNote → Option Event
 event_of layout queue count ProgramNote.Plain = None
 event_of layout queue count (ProgramNote.Called b a) = Some (Call count b a)
 event_of layout queue count (ProgramNote.Trapped v) = Some (Trap count v)
 event_of layout queue count (ProgramNote.Faulted t) = Some (fault_event layout queue count t)
+
+-- the access by which the program faulted, if the note is of one
+abbrev pub fault_in : ProgramNote → Option Access
+fault_in (ProgramNote.Faulted t) = Some t
+fault_in _ = None
 
 -- how many instructions were completed
 abbrev pub completed_in : Bool → ℕ
@@ -77,7 +75,8 @@ outcome_of (RuntimeNote.Dead cause) = RtTurn.Dead cause
 -- ---- A turn
 
 -- the turn leads from the machine to one with this processor and this memory, and is one of the definitions: with its exit, the event
--- that the program showed, the instructions that were completed, and the cause that the runtime's note names
+-- that the program showed, the instructions that were completed, and the cause that the runtime's note names; and it tells what the two
+-- notes say
 pub record TurnsTo (layout : Layout) (lp : ℕ) (old : State) (turned : Turned) (cpu : Cpu) (memory : Memory) : Type 0 where
   pub new : State
   pub machine : IsRunning layout cpu memory new
@@ -86,6 +85,7 @@ pub record TurnsTo (layout : Layout) (lp : ℕ) (old : State) (turned : Turned) 
   pub queue : turned.exit ≡ None → new.queue ≡ old.queue
   pub turn : IsTurn layout lp old new turned.exit (event_of layout old.queue old.count turned.program)
   pub cause : NamesCause layout lp old new turned.exit (event_of layout old.queue old.count turned.program) (outcome_of turned.runtime)
+  pub notes : TellsTurn layout lp old (event_of layout old.queue old.count turned.program) (fault_in turned.program) (outcome_of turned.runtime)
 
 -- what a turn with this exit leaves: the processor is outside where it left, holds the frames that it held, and is the one that it was;
 -- and of the memory's parts only bytes of frames and tracking differ, but for what is cached

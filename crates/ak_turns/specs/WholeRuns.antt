@@ -11,16 +11,18 @@ use Rattle.ak_model.specs.Paging.Histories.{History}
 use Rattle.ak_model.specs.Paging.Inside.{inside}
 use Rattle.ak_model.specs.Tapes.ProgramTurns.{ProgramTurn}
 use Rattle.ak_pte.specs.declared.table.Pte.{Pte}
+use Rattle.ak_relation.specs.Program.FaultedTurns.{fault_event}
 use Rattle.ak_relation.specs.Relation.Causes.{NamesMoveCause}
 use Rattle.ak_relation.specs.Relation.Does.{IsMove, at_moment}
 use Rattle.ak_relation.specs.Relation.Stands.{Stands}
+use Rattle.ak_relation.specs.Relation.Tells.{TellsMove}
 use Rattle.ak_relation.specs.Relation.TurnByTurn.{AreTurns}
 use Rattle.ak_relation.specs.State.MachineState.{State}
 use Rattle.ak_encls.specs.Enclave.{Enclave}
 use Rattle.ak_enclu.specs.Machines.{IsMachine}
 use Rattle.ak_enclu.specs.declared.cpu.Cpu.{Cpu}
 use Rattle.ak_memory.specs.declared.memory.Memory.{Memory}
-use Rattle.ak_turns.specs.Running.{IsRunning, Runs, fault_event, outcome_of}
+use Rattle.ak_turns.specs.Running.{IsRunning, Runs, fault_in, outcome_of}
 use Rattle.ak_turns.specs.declared.notes.ProgramNote.{ProgramNote}
 use Rattle.ak_turns.specs.declared.notes.Ran.{Ran}
 
@@ -43,7 +45,8 @@ event_after layout queue count (ProgramNote.Trapped v) = Some (Trap count v)
 event_after layout queue count (ProgramNote.Faulted t) = Some (fault_event layout queue count t)
 
 -- a run of up to so many turns leads from the machine to one with this processor, page table and paging part, and is a move of the
--- definitions: with its exit, its event, the instructions that were completed, and the cause that the runtime's note names
+-- definitions: with its exit, its event, the instructions that were completed, and the cause that the runtime's note names; and it tells
+-- what the two notes say
 pub record RunsTo (layout : Layout) (lp : Lp) (turns : ℕ) (old : State) (ran : Ran) (cpu : Cpu) (table : List Pte) (encls : Enclave) : Type 0 where
   pub new : State
   pub machine : IsMachine layout cpu table encls new
@@ -51,6 +54,7 @@ pub record RunsTo (layout : Layout) (lp : Lp) (turns : ℕ) (old : State) (ran :
   pub count : new.count ≡ old.count + ran.completed
   pub move : IsMove layout old new (Run lp turns) (Answer.Exit ran.exit) (event_after layout old.queue new.count ran.program)
   pub cause : NamesMoveCause layout old new (Run lp turns) (Answer.Exit ran.exit) (event_after layout old.queue new.count ran.program) (outcome_of ran.runtime)
+  pub notes : TellsMove layout old new (Run lp turns) (Answer.Exit ran.exit) (event_after layout old.queue new.count ran.program) (fault_in ran.program) (outcome_of ran.runtime)
 
 -- what a run leaves: the processor is the one that it was, and holds the frames that it held; nothing is cached in the memory; and of
 -- the memory's parts only bytes of frames and tracking differ

@@ -1,6 +1,5 @@
 // Runs of turns.
-ghost use Rattle.std.specs.Prelude.{◌≡◌, ◌≤◌, ◌<◌, [], true};
-ghost use Rattle.ak_model.specs.Paging.Build.{steps_walk};
+ghost use Rattle.std.specs.Prelude.{◌≡◌, ◌≤◌, ◌<◌, []};
 ghost use Rattle.ak_relation.specs.State.MachineState.{State};
 ghost use Rattle.ak_enclu.specs.Machines.{IsMachine};
 ghost use Rattle.ak_turns.specs.Running.{IsRunning, Runs, completed_in};
@@ -17,7 +16,6 @@ use ak_memory::Memory;
 /// The run is a move of the definitions, of each machine with this processor and this memory. Between runs nothing is cached in the
 /// memory: a processor has its own translations.
 pub fn run(layout: &Layout, cpu: &mut Cpu, memory: &mut Memory, turns: u32) -> Ran
-    requires walks { steps_walk layout.now.build ≡ true }
     requires known { cpu.old.lp.0 < layout.now.lps }
     requires stays { Stays layout.now cpu.old memory.old.table memory.old.encls }
     requires uncached { memory.old.tlb ≡ [] }
@@ -34,7 +32,6 @@ pub fn run(layout: &Layout, cpu: &mut Cpu, memory: &mut Memory, turns: u32) -> R
 
 /// The same, while the translations of the processor are in the memory.
 fn take_turns(layout: &Layout, cpu: &mut Cpu, memory: &mut Memory, turns: u32) -> Ran
-    requires walks { steps_walk layout.now.build ≡ true }
     requires known { cpu.old.lp.0 < layout.now.lps }
     requires runs { Runs layout.now cpu.old memory.old }
     ensures run { (state : State) → IsRunning layout.now cpu.old memory.old state

@@ -1,7 +1,6 @@
 // A turn of the runtime.
 ghost use Rattle.std.specs.Prelude.{◌≡◌, [], None, false, true, is_some};
 ghost use Rattle.ak_core.specs.declared.registers.Mode;
-ghost use Rattle.ak_model.specs.Paging.Build.{steps_walk};
 ghost use Rattle.ak_relation.specs.State.MachineState.{State};
 ghost use Rattle.ak_ssa.specs.SavedRegisters.{AreRegs, AreWords};
 ghost use Rattle.ak_track.specs.Steps.{LeavesBy};
@@ -21,7 +20,6 @@ use ak_walk::mask;
 /// of the step is refused, and the processor is saved before it changed anything.
 pub(crate) fn runtime_step(layout: &Layout, cpu: &mut Cpu, memory: &mut Memory) -> Turned
     requires mode { cpu.old.regs.mode ≡ Mode.Mode.Runtime }
-    requires walks { steps_walk layout.now.build ≡ true }
     requires runs { Runs layout.now cpu.old memory.old }
     ensures turn { (state : State) → IsRunning layout.now cpu.old memory.old state → TurnsTo layout.now cpu.old.lp.0 state result cpu.new memory.new }
     ensures told { TellsOf result.program result.completed }

@@ -1,6 +1,5 @@
 // One turn of a processor that is inside.
 ghost use Rattle.std.specs.Prelude.{◌≡◌, None, true, is_some, false};
-ghost use Rattle.ak_model.specs.Paging.Build.{steps_walk};
 ghost use Rattle.ak_relation.specs.State.MachineState.{State};
 ghost use Rattle.ak_turns.specs.Running.{IsRunning, Runs, TellsOf, TurnKeeps, TurnsTo};
 
@@ -17,8 +16,7 @@ use ak_memory::Memory;
 /// The turn is one of the definitions, of each machine with this processor and this memory. Where the processor goes on, the machine
 /// stands at a moment of the trace again; where it leaves, it is outside, and nothing is cached.
 pub fn turn(layout: &Layout, cpu: &mut Cpu, memory: &mut Memory) -> Turned
-    requires walks { steps_walk layout.now.build ≡ true }
-    requires runs { Runs layout.now cpu.old memory.old }
+    requires { Runs layout.now cpu.old memory.old }
     ensures turn { (state : State) → IsRunning layout.now cpu.old memory.old state → TurnsTo layout.now cpu.old.lp.0 state result cpu.new memory.new }
     ensures told { TellsOf result.program result.completed }
     ensures left { is_some result.exit ≡ true → result.completed ≡ false }

@@ -2,6 +2,7 @@
 #![tactic(auto)]
 
 use ak_outside::{RealFiles, RealSink};
+use ak_top::{Left, autarky};
 use std::process::ExitCode;
 use std::{env, io};
 
@@ -24,5 +25,13 @@ fn main(rt: HostRuntime) -> ExitCode {
     let mut files = RealFiles::new(&rt);
     let mut out = RealSink::new(rt.stdout());
     let mut err = RealSink::new(rt.stderr());
-    ExitCode::from(ak_top::autarky(rt.alloc(), &words, &mut files, &mut out, &mut err))
+    let mut left = Left::Nothing;
+    ExitCode::from(autarky(
+        rt.alloc(),
+        &words,
+        &mut files,
+        &mut out,
+        &mut err,
+        &mut left,
+    ))
 }

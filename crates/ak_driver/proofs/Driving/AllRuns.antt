@@ -7,7 +7,6 @@ use Rattle.std.proofs.lemmas.List.Elements.{All-nil, All-cons, All-append}
 use Rattle.ak_core.specs.Layout.{Layout, IsValid}
 use Rattle.ak_core.specs.declared.event.Event.{Event}
 use Rattle.ak_core.specs.declared.moves.Move.{Move}
-use Rattle.ak_model.specs.Paging.Build.{queue_at_build}
 use Rattle.ak_model.specs.Kernels.Counted.{CountsRight}
 use Rattle.ak_model.specs.Paging.Inside.{someone_inside}
 use Rattle.ak_model.specs.Kernels.Repeats.{is_done}
@@ -34,8 +33,8 @@ use Rattle.ak_driver.proofs.Driving.KernelSteps.{idle_drives, left_drives, resum
 use Rattle.ak_driver.proofs.Serving.RoomForPages.{asked_fits, has_room}
 use Rattle.ak_driver.proofs.Driving.Start.{starts}
 
-module _ (layout : Layout) (valid : IsValid layout) (roomy : IsRoomy layout) (tape : List Event) (misses : MissesFit layout (queue_at_build layout.build layout) tape) (whole : has_break tape ≡ false) (inputs : List ℕ) where
-  counted : (moves : List Move) → CountsRight layout (trace layout tape moves)
+module _ (layout : Layout) (valid : IsValid layout) (roomy : IsRoomy layout) (tape : List Event) (misses : MissesFit layout [] tape) (whole : has_break tape ≡ false) (inputs : List ℕ) where
+  counted : (moves : List Move) → CountsRight (trace layout tape moves)
   counted moves = counts_right layout tape moves
 
   -- somebody is inside at a spot inside
@@ -65,18 +64,18 @@ module _ (layout : Layout) (valid : IsValid layout) (roomy : IsRoomy layout) (ta
       inside_by : (spot : Spot) → is_within spot ≡ true → IsHonest layout (trace layout tape moves).past (trace layout tape moves).control spot rest states → Drives layout (trace layout tape moves).past (trace layout tape moves).control spot states inputs
       inside_by spot w old =
           let o = someone_there moves (someone_inside layout (trace layout tape moves).past) (trace_is_orderly layout valid tape misses moves) (ap (λ c. is_some c.now) old.control_is ∙ now_within spot w) in
-          inside_drives layout (trace layout tape moves).past (trace layout tape moves).control rest states inputs valid roomy (one_copy layout tape moves) (counted moves) spot w (queue_by layout (program_turns layout tape moves)) o old
+          inside_drives layout (trace layout tape moves).past (trace layout tape moves).control rest states inputs valid (one_copy layout tape moves) (counted moves) spot w (queue_by layout (program_turns layout tape moves)) o old
 
       room_at : (c : ℕ) (old : IsHonest layout (trace layout tape moves).past (trace layout tape moves).control (Requested c) rest states) → HasRoom layout (trace layout tape moves).past c states
       room_at c old =
           has_room layout (trace layout tape moves).past (trace layout tape moves).control c rest states valid roomy (one_copy layout tape moves) old
-          (asked_fits layout (trace layout tape moves).past (trace layout tape moves).control c rest states roomy old (queue_by layout (program_turns layout tape moves)) (someone_inside layout (trace layout tape moves).past) (trace_is_orderly layout valid tape misses moves))
+          (asked_fits layout (trace layout tape moves).past (trace layout tape moves).control c rest states old (queue_by layout (program_turns layout tape moves)) (someone_inside layout (trace layout tape moves).past) (trace_is_orderly layout valid tape misses moves))
 
       by : (spot : Spot) → is_over_at spot ≡ false → IsHonest layout (trace layout tape moves).past (trace layout tape moves).control spot rest states → Drives layout (trace layout tape moves).past (trace layout tape moves).control spot states inputs
-      by (Idle called) g old = idle_drives layout (trace layout tape moves).past (trace layout tape moves).control rest states inputs valid roomy (one_copy layout tape moves) (counted moves) called old
-      by (Left fault) g old = left_drives layout (trace layout tape moves).past (trace layout tape moves).control rest states inputs valid roomy (one_copy layout tape moves) (counted moves) fault old
-      by (Requested c) g old = requested_drives layout (trace layout tape moves).past (trace layout tape moves).control rest states inputs valid roomy (one_copy layout tape moves) (counted moves) c (room_at c old) old
-      by Resumable g old = resumable_drives layout (trace layout tape moves).past (trace layout tape moves).control rest states inputs valid roomy (one_copy layout tape moves) (counted moves) old
+      by (Idle called) g old = idle_drives layout (trace layout tape moves).past (trace layout tape moves).control rest states inputs valid (one_copy layout tape moves) (counted moves) called old
+      by (Left fault) g old = left_drives layout (trace layout tape moves).past (trace layout tape moves).control rest states inputs valid (one_copy layout tape moves) (counted moves) fault old
+      by (Requested c) g old = requested_drives layout (trace layout tape moves).past (trace layout tape moves).control rest states inputs valid (one_copy layout tape moves) (counted moves) c (room_at c old) old
+      by Resumable g old = resumable_drives layout (trace layout tape moves).past (trace layout tape moves).control rest states inputs valid (one_copy layout tape moves) (counted moves) old
       by (Entered called v) g old = inside_by (Entered called v) refl old
       by InProgram g old = inside_by InProgram refl old
       by (Leaving b a) g old = inside_by (Leaving b a) refl old
@@ -112,7 +111,7 @@ module _ (layout : Layout) (valid : IsValid layout) (roomy : IsRoomy layout) (ta
 
   -- the invariant holds after each list of the kernel's moves
   pub all_honest : (moves : List Move) → IsDriven layout tape inputs moves → HonestMoment layout (trace layout tape moves)
-  all_honest [] driven = starts layout tape roomy whole
+  all_honest [] driven = starts layout tape whole
   all_honest (m ∷ moves) driven =
       let now = made moves (all_honest moves driven.1) m driven.0 in
       record { spot = now.next; rest = now.after; states = now.states; holds = now.holds }

@@ -1,5 +1,5 @@
 -- The run after the entering that answers a request is answered Ready.
-use Rattle.std.proofs.Common.{◌≡◌, ℕ, zero, suc, ◌+◌, ◌-◌, ◌<◌, ◌≤◌, List, ◌∷◌, length, arith, refl, ◌∙◌, subst, ap}
+use Rattle.std.proofs.Common.{◌≡◌, ℕ, zero, suc, ◌+◌, ◌-◌, ◌<◌, ◌≤◌, List, [], ◌∷◌, length, arith, refl, ◌∙◌, subst, ap}
 use Rattle.std.specs.Prelude.{Bool, true, false, if◌then◌else◌, filter, cond, Some, is_some, ◌==◌}
 use Rattle.std.specs.List.{range_with_len}
 use Rattle.std.proofs.lemmas.Bool.Decides.{nat_tests}
@@ -10,7 +10,6 @@ use Rattle.ak_core.specs.declared.moves.Exit.{Exit}
 use Rattle.ak_core.specs.declared.moves.Move.{Move}
 use Rattle.ak_core.specs.declared.moves.Move.TheVariants.{Run}
 use Rattle.ak_model.specs.Control.Answers.{answer}
-use Rattle.ak_model.specs.Paging.Build.{queue_at_build}
 use Rattle.ak_model.specs.Control.ControlState.{Asked, Enter, Probe, Finish, Control}
 use Rattle.ak_model.specs.Kernels.Counted.{service}
 use Rattle.ak_model.specs.Sound.Forced.{queue_by}
@@ -51,14 +50,14 @@ few_kept test (suc n) a = by (test a) (few_kept test n (a + 1))
     by false l = omega arith
 
 module _ (layout : Layout) (past : History) (control : Control) (c v : ℕ) (rest : Progress) (states : ℕ → PageState) (valid : IsValid layout) (copies : OneCopy layout past)
-    (old : IsHonest layout past control (Answering c (Begins v)) rest states) (counted : (service layout past).queue ≡ rest.queue) where
+    (old : IsHonest layout past control (Answering c (Begins v)) rest states) (counted : (service past).queue ≡ rest.queue) where
   -- the exit of a run of up to n turns from a spot
   abbrev exit_from : ℕ → Spot → Exit
   exit_from n spot = (run layout past n (control_at spot rest)).exit
 
   -- the last turn says Ready
   finish_ran : (n : ℕ) → exit_from (suc n) (Answering c Finishes) ≡ Exit.Ready
-  finish_ran n = ap (λ o. (go_on (unless_fault layout (control_at (Answering c Finishes) rest) Finish o) (run layout past n)).exit) (finish_quiet layout past old.stands.untouched (service layout past) rest counted old.unbroken c)
+  finish_ran n = ap (λ o. (go_on (unless_fault layout (control_at (Answering c Finishes) rest) Finish o) (run layout past n)).exit) (finish_quiet layout past old.stands.untouched (service past) rest counted old.unbroken c)
 
   -- the exit after the probe of page number i, the last or not
   abbrev after_probe : ℕ → ℕ → Bool → Exit
@@ -67,8 +66,8 @@ module _ (layout : Layout) (past : History) (control : Control) (c v : ℕ) (res
   one_probe : (n i : ℕ) → i < length (pages_of layout c) → exit_from (suc n) (Answering c (Probes i)) ≡ after_probe n i (suc i == length (pages_of layout c))
   one_probe n i low =
       ap (λ o. (go_on (unless_fault layout (control_at (Answering c (Probes i)) rest) (Probe i) o) (run layout past n)).exit)
-      (probe_quiet layout past old.stands.untouched (service layout past) rest counted old.unbroken c i
-      (probed layout past states valid copies old.stands (service layout past) c i (Probes i) rest old.fits low))
+      (probe_quiet layout past old.stands.untouched (service past) rest counted old.unbroken c i
+      (probed layout past states valid copies old.stands (service past) c i (Probes i) rest old.fits low))
 
   -- with k more pages after page number i
   probe_ran : (k i n : ℕ) → i + suc k ≡ length (pages_of layout c) → k + 2 ≤ n → exit_from n (Answering c (Probes i)) ≡ Exit.Ready
@@ -85,7 +84,7 @@ module _ (layout : Layout) (past : History) (control : Control) (c v : ℕ) (res
   begins_ran : (n : ℕ) → 1 ≤ length (pages_of layout c) → length (pages_of layout c) + 2 ≤ n → exit_from n (Answering c (Begins v)) ≡ Exit.Ready
   begins_ran zero some l = absurd (omega arith)
   begins_ran (suc n) some l =
-      ap (λ o. (go_on (unless_fault layout (control_at (Answering c (Begins v)) rest) (Enter 1 v) o) (run layout past n)).exit) (begins_quiet layout past old.stands.untouched (service layout past) rest counted old.unbroken c v)
+      ap (λ o. (go_on (unless_fault layout (control_at (Answering c (Begins v)) rest) (Enter 1 v) o) (run layout past n)).exit) (begins_quiet layout past old.stands.untouched (service past) rest counted old.unbroken c v)
       ∙ probe_ran (length (pages_of layout c) - 1) 0 n (omega arith) (omega arith)
 
   pub ready_ran : (n : ℕ) → 514 ≤ n → c < layout.clusters → (run layout past n control).exit ≡ Exit.Ready
@@ -95,7 +94,7 @@ module _ (layout : Layout) (past : History) (control : Control) (c v : ℕ) (res
       let limit = valid.few_pages in
       ap (λ k. (run layout past n k).exit) old.control_is ∙ begins_ran n some (omega arith)
 
-module _ (layout : Layout) (valid : IsValid layout) (roomy : IsRoomy layout) (tape : List Event) (misses : MissesFit layout (queue_at_build layout.build layout) tape) (whole : has_break tape ≡ false) (inputs : List ℕ)
+module _ (layout : Layout) (valid : IsValid layout) (roomy : IsRoomy layout) (tape : List Event) (misses : MissesFit layout [] tape) (whole : has_break tape ≡ false) (inputs : List ℕ)
     (moves : List Move) (c v : ℕ) (rest : Progress) (states : ℕ → PageState) (old : IsHonest layout (trace layout tape moves).past (trace layout tape moves).control (Answering c (Begins v)) rest states) where
   -- once a processor has entered while cluster c is asked for, the kernel runs it, and the runtime says Ready
   pub answers_ready : (drive layout (trace layout tape moves).past inputs ≡ Some (Run (record { 0 = 0 }) 1000)) × (answer layout (trace layout tape moves).past (trace layout tape moves).control (Run (record { 0 = 0 }) 1000) ≡ Answer.Exit Exit.Ready)
@@ -108,12 +107,12 @@ module _ (layout : Layout) (valid : IsValid layout) (roomy : IsRoomy layout) (ta
       let asked : control.phase ≡ Asked c = ap (λ x. x.phase) old.control_is in
       let entered : control.now ≡ Some (Enter 1 v) = ap (λ x. x.now) old.control_is in
       let orderly = someone_there layout valid roomy tape misses whole inputs moves (someone_inside layout past) laws (ap is_some entered) in
-      let counted : (service layout past).queue ≡ rest.queue = counts.queue_is ∙ ap (λ x. x.queue) old.control_is in
+      let counted : (service past).queue ≡ rest.queue = counts.queue_is ∙ ap (λ x. x.queue) old.control_is in
       let known : PhaseFits layout control.queue control.cause (Asked c) = subst (λ x. PhaseFits layout control.queue control.cause x) asked laws.phase in
       let e : is_ended past ≡ false = old.going in
       let i : inside past 0 ≡ true = old.inside_is 0 in
       let f = first_found (inside past) layout.lps valid.some_lp i in (
-        gives layout past control (Answering c (Begins v)) rest states inputs valid roomy copies counts old _ (rw (e, f) refl),
+        gives layout past control (Answering c (Begins v)) rest states inputs valid copies counts old _ (rw (e, f) refl),
         run_answered layout past control (Answering c (Begins v)) rest states old refl valid copies (queue_by layout (program_turns layout tape moves)) orderly counted 1000
             ∙ ap Answer.Exit (ready_ran layout past control c v rest states valid copies old counted 1000 (omega arith) known.0),
       )

@@ -21,7 +21,6 @@ use Rattle.ak_model.specs.Control.Answers.{answer}
 use Rattle.ak_model.specs.Control.Entering.{control_after}
 use Rattle.ak_model.specs.Kernels.HonestKernel.{Passes, Gives, run_inside, rules, drive}
 use Rattle.ak_model.specs.Laws.OneLiveCopy.{OneCopy}
-use Rattle.ak_driver.specs.HonestRuns.{IsRoomy}
 use Rattle.ak_driver.proofs.Invariant.PageStates.{PageState}
 use Rattle.ak_driver.proofs.Invariant.Spots.{Spot, Requested, Answering, Begins, Progress, control_at, is_within}
 use Rattle.ak_driver.proofs.Invariant.HonestMoments.{IsHonest, HonestAt, dropped_for}
@@ -37,8 +36,8 @@ none_found test (x ∷ xs) h = let e = h x in rw e (none_found test xs h)
 abbrev pub ServesOrAnswers : Layout → History → (ℕ → PageState) → ℕ → History → (ℕ → PageState) → Spot → Type 0
 ServesOrAnswers layout past states c after next (Requested d) =
     (d ≡ c)
-    × (service layout after ≡ service layout past)
-    × (moves_left layout (dropped_for (service layout past).request) c after next < moves_left layout (dropped_for (service layout past).request) c past states)
+    × (service after ≡ service past)
+    × (moves_left layout (dropped_for (service past).request) c after next < moves_left layout (dropped_for (service past).request) c past states)
 ServesOrAnswers layout past states c after next (Answering d (Begins v)) = d ≡ c
 ServesOrAnswers layout past states c after next _ = ⊥
 
@@ -112,8 +111,8 @@ turns_none layout past control (Eenter lp v) h = All-nil (HonestAt layout)
 turns_none layout past control (Eresume lp) h = All-nil (HonestAt layout)
 turns_none layout past control (Interrupt lp) h = All-nil (HonestAt layout)
 
-module _ (layout : Layout) (past : History) (control : Control) (spot : Spot) (rest : Progress) (states : ℕ → PageState) (inputs : List ℕ) (valid : IsValid layout) (roomy : IsRoomy layout) (copies : OneCopy layout past)
-    (counts : Counts (saved_count past) (is_pending past) (service layout past) control) (old : IsHonest layout past control spot rest states) where
+module _ (layout : Layout) (past : History) (control : Control) (spot : Spot) (rest : Progress) (states : ℕ → PageState) (inputs : List ℕ) (valid : IsValid layout) (copies : OneCopy layout past)
+    (counts : Counts (saved_count past) (is_pending past) (service past) control) (old : IsHonest layout past control spot rest states) where
   -- what the kernel counts at a spot
   pub saved : saved_count past ≡ cssa (control_at spot rest)
   saved = counts.saved_is ∙ ap cssa old.control_is

@@ -18,7 +18,6 @@ use Rattle.ak_model.specs.Kernels.HonestKernel.{Gives, is_ended, next_value, ser
 use Rattle.ak_model.specs.Laws.Orderly.{IsOrderly}
 use Rattle.ak_model.specs.Control.Runs.{run}
 use Rattle.ak_model.specs.Laws.OneLiveCopy.{OneCopy}
-use Rattle.ak_driver.specs.HonestRuns.{IsRoomy}
 use Rattle.ak_driver.proofs.Invariant.PageStates.{PageState}
 use Rattle.ak_driver.proofs.Invariant.Spots.{Fault, Spot, Idle, Entered, InProgram, Leaving, Left, Handling, Requested, Answering, Begins, Resumable, Over, Progress, control_at, is_within}
 use Rattle.ak_driver.proofs.Invariant.HonestMoments.{IsHonest, HonestAt, dropped_for}
@@ -39,17 +38,17 @@ pub first_found : (test : ℕ → Bool) (n : ℕ) → 1 ≤ n → test 0 ≡ tru
 first_found test zero l h = absurd (omega arith)
 first_found test (suc n) l h = rw h refl
 
-module _ (layout : Layout) (past : History) (control : Control) (rest : Progress) (states : ℕ → PageState) (inputs : List ℕ) (valid : IsValid layout) (roomy : IsRoomy layout) (copies : OneCopy layout past)
-    (counts : Counts (saved_count past) (is_pending past) (service layout past) control) where
+module _ (layout : Layout) (past : History) (control : Control) (rest : Progress) (states : ℕ → PageState) (inputs : List ℕ) (valid : IsValid layout) (copies : OneCopy layout past)
+    (counts : Counts (saved_count past) (is_pending past) (service past) control) where
   pub idle_drives : (called : Bool) → IsHonest layout past control (Idle called) rest states → Drives layout past control (Idle called) states inputs
   idle_drives called old =
       let v = next_value past inputs in
-      let e : is_ended past ≡ false = old.going in let n = none_inside layout past control (Idle called) rest states inputs valid roomy copies counts old refl in
-      let p : is_pending past ≡ false = pending layout past control (Idle called) rest states inputs valid roomy copies counts old in
-      let s : saved_count past ≡ 0 = saved layout past control (Idle called) rest states inputs valid roomy copies counts old in
+      let e : is_ended past ≡ false = old.going in let n = none_inside layout past control (Idle called) rest states inputs valid copies counts old refl in
+      let p : is_pending past ≡ false = pending layout past control (Idle called) rest states inputs valid copies counts old in
+      let s : saved_count past ≡ 0 = saved layout past control (Idle called) rest states inputs valid copies counts old in
       record {
         move = Eenter (record { 0 = 0 }) v;
-        driven = gives layout past control (Idle called) rest states inputs valid roomy copies counts old _ (rw (e, n, p, s) refl);
+        driven = gives layout past control (Idle called) rest states inputs valid copies counts old _ (rw (e, n, p, s) refl);
         answer_is = Ok;
         answered = enter_granted layout past valid old.stands.untouched (nobody layout past control (Idle called) rest states old refl) control v 0 (ap cssa old.control_is) (omega arith);
         done = refl;
@@ -65,12 +64,12 @@ module _ (layout : Layout) (past : History) (control : Control) (rest : Progress
 
   pub left_drives : (fault : Fault) → IsHonest layout past control (Left fault) rest states → Drives layout past control (Left fault) states inputs
   left_drives fault old =
-      let e : is_ended past ≡ false = old.going in let n = none_inside layout past control (Left fault) rest states inputs valid roomy copies counts old refl in
-      let p : is_pending past ≡ true = pending layout past control (Left fault) rest states inputs valid roomy copies counts old in
-      let s : saved_count past ≡ 1 = saved layout past control (Left fault) rest states inputs valid roomy copies counts old in
+      let e : is_ended past ≡ false = old.going in let n = none_inside layout past control (Left fault) rest states inputs valid copies counts old refl in
+      let p : is_pending past ≡ true = pending layout past control (Left fault) rest states inputs valid copies counts old in
+      let s : saved_count past ≡ 1 = saved layout past control (Left fault) rest states inputs valid copies counts old in
       record {
         move = Eenter (record { 0 = 0 }) 0;
-        driven = gives layout past control (Left fault) rest states inputs valid roomy copies counts old _ (rw (e, n, p, s) refl);
+        driven = gives layout past control (Left fault) rest states inputs valid copies counts old _ (rw (e, n, p, s) refl);
         answer_is = Ok;
         answered = enter_granted layout past valid old.stands.untouched (nobody layout past control (Left fault) rest states old refl) control 0 1 (ap cssa old.control_is) (omega arith);
         done = refl;
@@ -86,13 +85,13 @@ module _ (layout : Layout) (past : History) (control : Control) (rest : Progress
 
   pub resumable_drives : IsHonest layout past control Resumable rest states → Drives layout past control Resumable states inputs
   resumable_drives old =
-      let e : is_ended past ≡ false = old.going in let n = none_inside layout past control Resumable rest states inputs valid roomy copies counts old refl in
-      let p : is_pending past ≡ false = pending layout past control Resumable rest states inputs valid roomy copies counts old in
-      let s : saved_count past ≡ 1 = saved layout past control Resumable rest states inputs valid roomy copies counts old in
+      let e : is_ended past ≡ false = old.going in let n = none_inside layout past control Resumable rest states inputs valid copies counts old refl in
+      let p : is_pending past ≡ false = pending layout past control Resumable rest states inputs valid copies counts old in
+      let s : saved_count past ≡ 1 = saved layout past control Resumable rest states inputs valid copies counts old in
       let r = old.closed refl in
       record {
         move = Eresume (record { 0 = 0 });
-        driven = gives layout past control Resumable rest states inputs valid roomy copies counts old _ (rw (e, n, p, s, r) refl);
+        driven = gives layout past control Resumable rest states inputs valid copies counts old _ (rw (e, n, p, s, r) refl);
         answer_is = Ok;
         answered = resume_granted layout past valid old.stands.untouched (nobody layout past control Resumable rest states old refl) control (ap cssa old.control_is) (ap (λ c. c.pending) old.control_is);
         done = refl;
@@ -111,11 +110,11 @@ module _ (layout : Layout) (past : History) (control : Control) (rest : Progress
       let e : is_ended past ≡ false = old.going ∙ within_going spot within in
       let i : inside past 0 ≡ true = let h = old.inside_is 0 in let w = within in rw w at h in
       let f = first_found (inside past) layout.lps valid.some_lp i in
-      let counted : (service layout past).queue ≡ rest.queue = counts.queue_is ∙ ap (λ c. c.queue) old.control_is ∙ queue_at spot in
+      let counted : (service past).queue ≡ rest.queue = counts.queue_is ∙ ap (λ c. c.queue) old.control_is ∙ queue_at spot in
       let r = runs layout past control spot rest states old within valid copies so_far orderly counted 1000 in
       record {
         move = Run (record { 0 = 0 }) 1000;
-        driven = gives layout past control spot rest states inputs valid roomy copies counts old _ (rw (e, f) refl);
+        driven = gives layout past control spot rest states inputs valid copies counts old _ (rw (e, f) refl);
         answer_is = Answer.Exit (run layout past 1000 control).exit;
         answered = run_answered layout past control spot rest states old within valid copies so_far orderly counted 1000;
         done = refl;
@@ -157,26 +156,26 @@ module _ (layout : Layout) (past : History) (control : Control) (rest : Progress
       queue_at (Over end stack) = refl
 
   pub requested_drives : (c : ℕ) → HasRoom layout past c states → IsHonest layout past control (Requested c) rest states → Drives layout past control (Requested c) states inputs
-  requested_drives c room old = by (serve_does layout past control c rest states valid roomy copies old room)
+  requested_drives c room old = by (serve_does layout past control c rest states valid copies old room)
     where
-      asked : IsRequested (control_at (Requested c) rest).phase (service layout past).request
-      asked = subst (λ k. IsRequested k.phase (service layout past).request) old.control_is counts.requested
+      asked : IsRequested (control_at (Requested c) rest).phase (service past).request
+      asked = subst (λ k. IsRequested k.phase (service past).request) old.control_is counts.requested
 
-      request_is : (service layout past).request ≡ Some (record { dropped = dropped_for (service layout past).request; cluster = c })
+      request_is : (service past).request ≡ Some (record { dropped = dropped_for (service past).request; cluster = c })
       request_is = asked.1 ∙ ap (λ d. Some (record { dropped = d; cluster = c })) (sym (ap dropped_for asked.1))
 
-      driven_by : (m : Move) → serve layout past (Some (record { dropped = dropped_for (service layout past).request; cluster = c })) ≡ Gives (Some m) → drive layout past inputs ≡ Some m
+      driven_by : (m : Move) → serve layout past (Some (record { dropped = dropped_for (service past).request; cluster = c })) ≡ Gives (Some m) → drive layout past inputs ≡ Some m
       driven_by m h =
-          let e : is_ended past ≡ false = old.going in let n = none_inside layout past control (Requested c) rest states inputs valid roomy copies counts old refl in
-          let p : is_pending past ≡ false = pending layout past control (Requested c) rest states inputs valid roomy copies counts old in
-          let s : saved_count past ≡ 1 = saved layout past control (Requested c) rest states inputs valid roomy copies counts old in
-          let r : serve layout past (service layout past).request ≡ Gives (Some m) = ap (serve layout past) request_is ∙ h in
-          gives layout past control (Requested c) rest states inputs valid roomy copies counts old m (rw (e, n, p, s, r) refl)
+          let e : is_ended past ≡ false = old.going in let n = none_inside layout past control (Requested c) rest states inputs valid copies counts old refl in
+          let p : is_pending past ≡ false = pending layout past control (Requested c) rest states inputs valid copies counts old in
+          let s : saved_count past ≡ 1 = saved layout past control (Requested c) rest states inputs valid copies counts old in
+          let r : serve layout past (service past).request ≡ Gives (Some m) = ap (serve layout past) request_is ∙ h in
+          gives layout past control (Requested c) rest states inputs valid copies counts old m (rw (e, n, p, s, r) refl)
 
-      by : (x : (m : Move) × (serve layout past (Some (record { dropped = dropped_for (service layout past).request; cluster = c })) ≡ Gives (Some m)) × Does layout past control c rest states valid roomy copies old room m) → Drives layout past control (Requested c) states inputs
+      by : (x : (m : Move) × (serve layout past (Some (record { dropped = dropped_for (service past).request; cluster = c })) ≡ Gives (Some m)) × Does layout past control c rest states valid copies old room m) → Drives layout past control (Requested c) states inputs
       by (m, h, inl d) = table m h d
         where
-          table : (m : Move) → serve layout past (Some (record { dropped = dropped_for (service layout past).request; cluster = c })) ≡ Gives (Some m) → Serves layout past control c rest states m → Drives layout past control (Requested c) states inputs
+          table : (m : Move) → serve layout past (Some (record { dropped = dropped_for (service past).request; cluster = c })) ≡ Gives (Some m) → Serves layout past control c rest states m → Drives layout past control (Requested c) states inputs
           table m h d = record {
             move = m;
             driven = driven_by m h;

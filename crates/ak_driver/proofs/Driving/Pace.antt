@@ -10,7 +10,6 @@ use Rattle.ak_core.specs.declared.moves.Exit.{Exit}
 use Rattle.ak_core.specs.declared.moves.Exit.TheVariants.{Ask}
 use Rattle.ak_core.specs.declared.moves.Move.{Move}
 use Rattle.ak_core.specs.declared.moves.Move.TheVariants.{Run}
-use Rattle.ak_model.specs.Paging.Build.{queue_at_build}
 use Rattle.ak_model.specs.Paging.Histories.{History}
 use Rattle.ak_model.specs.Paging.Pages.{pages_of}
 use Rattle.ak_model.specs.Clusters.Queue.{is_in}
@@ -37,11 +36,11 @@ abbrev cluster_in : Option Request → ℕ
 cluster_in None = 0
 cluster_in (Some request) = request.cluster
 
-module _ (layout : Layout) (valid : IsValid layout) (roomy : IsRoomy layout) (tape : List Event) (misses : MissesFit layout (queue_at_build layout.build layout) tape) (whole : has_break tape ≡ false) (inputs : List ℕ)
+module _ (layout : Layout) (valid : IsValid layout) (roomy : IsRoomy layout) (tape : List Event) (misses : MissesFit layout [] tape) (whole : has_break tape ≡ false) (inputs : List ℕ)
     (before : List Move) (ask : Move) (d c : ℕ) (asked : answer_after layout tape before ask ≡ Answer.Exit (Ask d c)) where
   -- the clusters that are dropped, and the most moves that this takes
   abbrev dropped : List ℕ
-  dropped = take d (service layout (trace layout tape before).past).queue
+  dropped = take d (service (trace layout tape before).past).queue
 
   abbrev most : ℕ
   most = 3 * length (leaving_pages layout dropped) + 2 * length (pages_of layout c) + 2
@@ -57,7 +56,7 @@ module _ (layout : Layout) (valid : IsValid layout) (roomy : IsRoomy layout) (ta
     rest : Progress
     states : ℕ → PageState
     holds : IsHonest layout (past_of since) (control_of since) (Requested c) rest states
-    request : (service layout (past_of since)).request ≡ Some (record { dropped = dropped; cluster = c })
+    request : (service (past_of since)).request ≡ Some (record { dropped = dropped; cluster = c })
     left : length since + moves_left layout dropped c (past_of since) states ≤ most
 
   -- or a processor has entered
@@ -71,10 +70,10 @@ module _ (layout : Layout) (valid : IsValid layout) (roomy : IsRoomy layout) (ta
   -- ---- At the request
 
   first_serving : (spot : Spot) (rest : Progress) (states : ℕ → PageState) → IsHonest layout (past_of []) (control_of []) spot rest states → is_within spot ≡ false
-      → (service layout (past_of [])).request ≡ Some (record { dropped = dropped; cluster = c }) → Serving []
+      → (service (past_of [])).request ≡ Some (record { dropped = dropped; cluster = c }) → Serving []
   first_serving (Requested x) rest states old out request =
       let counts = counts_right layout tape (ask ∷ before) in
-      let told : IsRequested (control_at (Requested x) rest).phase (service layout (past_of [])).request = subst (λ k. IsRequested k.phase (service layout (past_of [])).request) old.control_is counts.requested in
+      let told : IsRequested (control_at (Requested x) rest).phase (service (past_of [])).request = subst (λ k. IsRequested k.phase (service (past_of [])).request) old.control_is counts.requested in
       let same : x ≡ c = ap cluster_in (sym told.1 ∙ request) in
       let here : IsHonest layout (past_of []) (control_of []) (Requested c) rest states = subst (λ y. IsHonest layout (past_of []) (control_of []) (Requested y) rest states) same old in
       let apart : is_in dropped c ≡ false = subst (λ o. is_in (dropped_for o) c ≡ false) request here.apart.1 in
@@ -94,7 +93,7 @@ module _ (layout : Layout) (valid : IsValid layout) (roomy : IsRoomy layout) (ta
   at_request driven =
       let mk = made layout valid roomy tape misses whole inputs before (all_honest layout valid roomy tape misses whole inputs before driven.1) ask driven.0 in
       let out = mk.leaves (Ask d c) asked (λ e. cc) in
-      first_serving mk.next mk.after mk.states mk.holds out.0 (ap (λ x. (service_after x (service layout (trace layout tape before).past)).request) out.1)
+      first_serving mk.next mk.after mk.states mk.holds out.0 (ap (λ x. (service_after x (service (trace layout tape before).past)).request) out.1)
 
   -- ---- One more move
 

@@ -5,7 +5,6 @@ use Rattle.ak_core.specs.Layout.{Layout, IsValid}
 use Rattle.ak_core.specs.declared.event.Event.{Event}
 use Rattle.ak_core.specs.declared.moves.Exit.{Exit}
 use Rattle.ak_core.specs.declared.moves.Move.{Move}
-use Rattle.ak_model.specs.Paging.Build.{queue_at_build}
 use Rattle.ak_model.specs.Paging.Histories.{History, Pair, Change, Unchanged, Exits, change_of}
 use Rattle.ak_model.specs.Kernels.HonestKernel.{is_end, ends, is_ended, drive, IsDriven}
 use Rattle.ak_model.specs.Laws.Premises.{MissesFit}
@@ -44,7 +43,7 @@ newest_ends layout pair past e before s = by (ends (change_of pair)) (says_resul
     by true false false h d f e n s = absurd (cc)
     by false false false h d f e n s = absurd (cc)
 
-module _ (layout : Layout) (valid : IsValid layout) (roomy : IsRoomy layout) (tape : List Event) (misses : MissesFit layout (queue_at_build layout.build layout) tape) (whole : has_break tape ≡ false) (inputs : List ℕ) where
+module _ (layout : Layout) (valid : IsValid layout) (roomy : IsRoomy layout) (tape : List Event) (misses : MissesFit layout [] tape) (whole : has_break tape ≡ false) (inputs : List ℕ) where
   -- a move is given only where the run has not ended
   going_on : (moves : List Move) (m : Move) → drive layout (trace layout tape moves).past inputs ≡ Some m → is_ended (trace layout tape moves).past ≡ false
   going_on moves m e = by (is_ended (trace layout tape moves).past) refl

@@ -1,4 +1,4 @@
--- What holds at each moment of an honest run from a sealed build.
+-- What holds at each moment of an honest run.
 use Rattle.std.specs.Prelude.{◌≡◌, ℕ, ◌<◌, Bool, true, false, ◌&&◌, ◌||◌, List, [], Option, Some, None, ◌==◌}
 use Rattle.ak_core.specs.Layout.{Layout}
 use Rattle.ak_core.specs.declared.moves.Move.{Move}
@@ -62,9 +62,9 @@ pub record IsHonest (layout : Layout) (past : History) (control : Control) (spot
   pub control_is : control ≡ control_at spot rest
   pub inside_is : (lp : ℕ) → inside past lp ≡ is_within spot && (lp == 0)
   pub stands : PagesStand layout past states
-  pub fits : (p : ℕ) → p < pages layout → MayBe spot (is_in rest.queue (cluster_at layout p)) (is_in (dropped_for (service layout past).request) (cluster_at layout p)) (cluster_at layout p) (states p)
-  pub apart : AreApart spot rest.queue (dropped_for (service layout past).request)
-  pub closed : asks spot ≡ false → (service layout past).request ≡ None
+  pub fits : (p : ℕ) → p < pages layout → MayBe spot (is_in rest.queue (cluster_at layout p)) (is_in (dropped_for (service past).request) (cluster_at layout p)) (cluster_at layout p) (states p)
+  pub apart : AreApart spot rest.queue (dropped_for (service past).request)
+  pub closed : asks spot ≡ false → (service past).request ≡ None
   pub waits : is_requested spot ≡ true → entered_since_ask past ≡ false
   pub unstopped : shows_stop past ≡ false
   pub going : is_ended past ≡ is_over_at spot

@@ -73,8 +73,8 @@ pub record Serves (layout : Layout) (past : History) (control : Control) (c : �
   pub done : is_done answer_is ≡ true
   pub states : ℕ → PageState
   pub holds : IsHonest layout ((move, answer_is) ∷ past) (control_after layout past control move answer_is) (Requested c) rest states
-  pub same_service : service layout ((move, answer_is) ∷ past) ≡ service layout past
-  pub fewer : moves_left layout (dropped_for (service layout past).request) c ((move, answer_is) ∷ past) states < moves_left layout (dropped_for (service layout past).request) c past old
+  pub same_service : service ((move, answer_is) ∷ past) ≡ service past
+  pub fewer : moves_left layout (dropped_for (service past).request) c ((move, answer_is) ∷ past) states < moves_left layout (dropped_for (service past).request) c past old
   pub not_run : is_run move ≡ false
   pub not_exit : (exit : Exit) → answer_is ≡ Answer.Exit exit → ⊥
   pub not_resumed : resumes (change move answer_is) ≡ false
@@ -82,6 +82,6 @@ pub record Serves (layout : Layout) (past : History) (control : Control) (c : �
 -- once each page that leaves is out, while a page of the cluster that is fetched is out too, the lowest free frame is there
 abbrev pub HasRoom : Layout → History → ℕ → (ℕ → PageState) → Type 0
 HasRoom layout past c states =
-    ((q : ℕ) → q < pages layout → is_in (dropped_for (service layout past).request) (cluster_at layout q) ≡ true → states q ≡ Out)
+    ((q : ℕ) → q < pages layout → is_in (dropped_for (service past).request) (cluster_at layout q) ≡ true → states q ≡ Out)
     → (p : ℕ) → p < pages layout → cluster_at layout p ≡ c → states p ≡ Out
     → (f : ℕ) × (lowest_free layout past ≡ Some f) × (held layout past f ≡ FreeFrame) × (f < layout.frames)

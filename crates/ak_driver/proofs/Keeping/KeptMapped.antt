@@ -82,8 +82,8 @@ module _ (layout : Layout) (past : History) (control : Control) (spot : Spot) (r
 
   pub in_by_queue : (p : ℕ) → p < pages layout → is_in rest.queue (cluster_at layout p) ≡ true → states p ≡ In
   in_by_queue p low h =
-      may_in spot (is_in (dropped_for (service layout past).request) (cluster_at layout p)) (cluster_at layout p) (states p)
-      (subst (λ b. MayBe spot b (is_in (dropped_for (service layout past).request) (cluster_at layout p)) (cluster_at layout p) (states p)) h (old.fits p low))
+      may_in spot (is_in (dropped_for (service past).request) (cluster_at layout p)) (cluster_at layout p) (states p)
+      (subst (λ b. MayBe spot b (is_in (dropped_for (service past).request) (cluster_at layout p)) (cluster_at layout p) (states p)) h (old.fits p low))
 
   queue_mapped : (queue : List ℕ) → ((c : ℕ) → is_in queue c ≡ true → is_in rest.queue c ≡ true) → list_all (cluster_is_mapped layout past) queue ≡ true
   queue_mapped [] h = refl

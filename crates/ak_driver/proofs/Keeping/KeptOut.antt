@@ -51,7 +51,7 @@ module _ (layout : Layout) (past : History) (control : Control) (spot : Spot) (r
       page w p low false e = refl
       page w p low true e =
           let o : is_out layout (control_at spot rest) p ≡ true = ap (λ c. is_out layout c p) (sym old.control_is) ∙ e in
-          out_unmapped layout past states copies old.stands p low (may_out spot w (is_in (dropped_for (service layout past).request) (cluster_at layout p)) p (states p) (old.fits p low) o)
+          out_unmapped layout past states copies old.stands p low (may_out spot w (is_in (dropped_for (service past).request) (cluster_at layout p)) p (states p) (old.fits p low) o)
 
       by : (b : Bool) → is_within spot ≡ b → keeps_out layout (record { past = past; control = control }) ≡ true
       by true w =

@@ -1,17 +1,13 @@
 -- What is noted at the build.
-use Rattle.std.proofs.Common.{◌≡◌, ℕ, zero, suc, ◌+◌, ◌-◌, ◌<◌, ◌≤◌, true, false, ◌==◌, if◌then◌else◌, List, [], ◌∷◌, ◌++◌, length, get_or, refl, ap, sym, ◌∙◌, arith, ◌⊎◌, inl, inr, length-append}
-use Rattle.std.specs.Prelude.{Some, None, nat_lt, slice_get}
+use Rattle.std.proofs.Common.{◌≡◌, ℕ, zero, suc, ◌+◌, ◌<◌, ◌≤◌, true, false, ◌==◌, List, [], ◌∷◌, ◌++◌, length, get_or, refl, ap, sym, ◌∙◌, arith, ◌⊎◌, inl, inr, length-append}
+use Rattle.std.specs.Prelude.{None, nat_lt}
 use Rattle.std.proofs.lemmas.Bool.{cases_lt, lt-ltb, le-ltb}
 use Rattle.std.proofs.lemmas.Bool.Decides.{eqb_tells}
 use Rattle.std.proofs.Math.ListN.{get_or-eq_default}
 use Rattle.ak_core.specs.Layout.{Layout}
-use Rattle.ak_core.specs.declared.build.Build.{Build}
-use Rattle.ak_core.specs.declared.build.Build.TheVariants.{Resident, Sealed as SealedBuild}
-use Rattle.ak_core.specs.declared.page.Perm.{Perm}
-use Rattle.ak_model.specs.Paging.Pages.{pages, perm_of, strong_flags}
-use Rattle.ak_model.specs.Paging.Holdings.{FreeFrame, PageFrame}
-use Rattle.ak_model.specs.Paging.Build.{held_at_build, later_frame, program_place, program_entry}
-use Rattle.ak_model.specs.Kernels.HonestKernel.{frame_in}
+use Rattle.ak_model.specs.Paging.Pages.{pages}
+use Rattle.ak_model.specs.Paging.Holdings.{FreeFrame}
+use Rattle.ak_model.specs.Paging.Build.{held_at_build}
 use Rattle.ak_driver.specs.NotedTables.{holding, free_note, frame_note, no_page, page_note, noted, facts, facts_at_build, AreFramesAtBuild, ArePagesAtBuild}
 use Rattle.ak_driver.specs.declared.tables.FrameNote.{FrameNote}
 use Rattle.ak_driver.specs.declared.tables.PageNote.{PageNote}
@@ -64,18 +60,14 @@ one_more_frame notes layout n note h is unblocked =
 differ : (x y : ℕ) → (x ≡ y → ⊥) → (x == y) ≡ false
 differ x y ne = elim (eqb_tells x y) [ inl one ↦ absurd (ne one.1) | inr two ↦ two.0 ]
 
-beyond : (layout : Layout) (f : ℕ) → 8 + pages layout ≤ f → held_at_build layout f ≡ FreeFrame
+beyond : (layout : Layout) (f : ℕ) → 8 ≤ f → held_at_build layout f ≡ FreeFrame
 beyond layout f high =
     let a : (f == 0) ≡ false = differ f 0 (λ e. omega arith) in
     let b : (f == 1) ≡ false = differ f 1 (λ e. omega arith) in
-    let c : nat_lt f 8 ≡ false = le-ltb f 8 (omega arith) in
-    rw (a, b, c) (by layout.build)
-  where
-    by : (build : Build) → later_frame build layout f ≡ FreeFrame
-    by Resident = ap (λ b. if b then PageFrame (f - 8) else FreeFrame) (le-ltb f (8 + pages layout) high)
-    by SealedBuild = refl
+    let c : nat_lt f 8 ≡ false = le-ltb f 8 high in
+    rw (a, b, c) refl
 
-pub all_frames : (notes : List FrameNote) (layout : Layout) (n : ℕ) → FramesUpTo notes layout n → layout.frames ≤ n → 8 + pages layout ≤ n → AreFramesAtBuild notes layout
+pub all_frames : (notes : List FrameNote) (layout : Layout) (n : ℕ) → FramesUpTo notes layout n → layout.frames ≤ n → 8 ≤ n → AreFramesAtBuild notes layout
 all_frames notes layout n h some rest =
     let size = h.size in
     record { room = omega arith; held_is = λ f. held f (cases_lt f n); blocked_is = λ f. blocked f (cases_lt f n) }
@@ -101,21 +93,8 @@ pub no_pages : (layout : Layout) → PagesUpTo [] layout 0
 no_pages layout = record { size = refl; facts_are = λ p low. absurd (omega arith) }
 
 -- what the build's history tells of a page
-pub page_at_build : (layout : Layout) (p : ℕ) (perm : Perm) → slice_get layout.perms p ≡ Some perm → p < pages layout → facts_at_build layout.build perm p ≡ facts layout [] p
-page_at_build layout p perm is low =
-    let t : nat_lt p (pages layout) ≡ true = lt-ltb p (pages layout) low in
-    let permits : perm_of layout p ≡ Some perm = rw t is in
-    rw t (by layout.build permits)
-  where
-    by : (build : Build) → perm_of layout p ≡ Some perm → facts_at_build build perm p
-        ≡ record { frame = frame_in (program_place build p); entry = program_entry build layout p; copy = record { handle = p; va = 1; slot = p } }
-    by Resident e =
-        ap (λ o. record {
-          frame = Some (8 + p);
-          entry = record { frame = 8 + p; flags = strong_flags o };
-          copy = record { handle = p; va = 1; slot = p };
-        }) (sym e)
-    by SealedBuild e = refl
+pub page_at_build : (layout : Layout) (p : ℕ) → p < pages layout → facts_at_build p ≡ facts layout [] p
+page_at_build layout p low = let t : nat_lt p (pages layout) ≡ true = lt-ltb p (pages layout) low in rw t refl
 
 pub one_more_page : (notes : List PageNote) (layout : Layout) (n : ℕ) (note : PageNote) → PagesUpTo notes layout n → noted note ≡ facts layout [] n
     → PagesUpTo (notes ++ note ∷ []) layout (n + 1)

@@ -175,7 +175,7 @@ module _ (driver : Driver) (layout : Layout) (past : History) (h : Notes driver 
   asked_same None = refl
   asked_same (Some c) = served_same c
 
-  request_same : asked_rule driver layout driver.requests.asked ≡ serve layout past (service layout past).request
+  request_same : asked_rule driver layout driver.requests.asked ≡ serve layout past (service past).request
   request_same = asked_same driver.requests.asked ∙ ap (serve layout past) h.requests_are.request_is
 
   -- ---- All rules

@@ -91,12 +91,12 @@ module _ (old new : Driver) (layout : Layout) (past : History) (pair : Pair) (ch
       (cycles_step layout past old.tracking.newest old.tracking.entered h.cycles_are change there))
 
   requests : (length (clusters_in (note_after change (request_note old.requests))) ≤ 512
-      → request_note new.requests ≡ note_after change (request_note old.requests)) → AreRequests (request_note new.requests) (service_after (told change) (service layout past))
+      → request_note new.requests ≡ note_after change (request_note old.requests)) → AreRequests (request_note new.requests) (service_after (told change) (service past))
   requests kept =
-      let after = requests_step (request_note old.requests) (service layout past) h.requests_are change in
-      let room : length (service_after (told change) (service layout past)).queue ≤ 512 =
-      subst (λ (c : Histories.Change). length (service_after c (service layout past)).queue ≤ 512) (sym is) plausible.room in
-      subst (λ k. AreRequests k (service_after (told change) (service layout past))) (sym (kept (let e = ap length after.queue_is in omega arith))) after
+      let after = requests_step (request_note old.requests) (service past) h.requests_are change in
+      let room : length (service_after (told change) (service past)).queue ≤ 512 =
+      subst (λ (c : Histories.Change). length (service_after c (service past)).queue ≤ 512) (sym is) plausible.room in
+      subst (λ k. AreRequests k (service_after (told change) (service past))) (sym (kept (let e = ap length after.queue_is in omega arith))) after
 
   -- the driver stands for one more move
   pub notes_step : new.place ≡ place
@@ -120,6 +120,6 @@ module _ (old new : Driver) (layout : Layout) (past : History) (pair : Pair) (ch
         (subst (λ (c : Histories.Change). AreCycles new.tracking.newest new.tracking.entered layout.lps (length past + 1)
         (λ lp. is_some (since_after c lp (length past + 1) (since past lp))) (cycles_after layout past c (cycles layout past))) is (all_cycles newest entered));
     counts_are = counts_step old.counts new.counts past pair plausible.few h.counts_are (subst (Counted old.counts new.counts) is counts);
-    requests_are = subst (λ (c : Histories.Change). AreRequests (request_note new.requests) (service_after c (service layout past))) is (requests kept);
+    requests_are = subst (λ (c : Histories.Change). AreRequests (request_note new.requests) (service_after c (service past))) is (requests kept);
     refused_is = refused;
   }

@@ -19,7 +19,6 @@ use Rattle.ak_model.specs.Control.Trace.{trace}
 use Rattle.ak_model.specs.Kernels.Counted.{service}
 use Rattle.ak_model.specs.Laws.Orderly.{IsDistinct}
 use Rattle.ak_model.specs.Laws.Premises.{MissesFit}
-use Rattle.ak_model.specs.Paging.Build.{queue_at_build}
 use Rattle.ak_model.specs.Paging.Histories.{History, Maps, Blocks, Cycles, WritesOut, Loads, Removes, MakesVa, Discards, Enters, Resumes, Exits, Interrupts, change}
 use Rattle.ak_model.specs.Paging.Views.{View, view_of}
 use Rattle.ak_model.proofs.Control.OneInsideTrace.{counts_right}
@@ -88,8 +87,8 @@ pub length-trace : (layout : Layout) (tape : List Event) (moves : List Move) →
 length-trace layout tape [] = refl
 length-trace layout tape (m ∷ moves) = ap suc (length-trace layout tape moves)
 
-module _ (layout : Layout) (tape : List Event) (valid : IsValid layout) (misses : MissesFit layout (queue_at_build layout.build layout) tape) where
-  few_in : (moves : List Move) → length (service layout (trace layout tape moves).past).queue ≤ 512
+module _ (layout : Layout) (tape : List Event) (valid : IsValid layout) (misses : MissesFit layout [] tape) where
+  few_in : (moves : List Move) → length (service (trace layout tape moves).past).queue ≤ 512
   few_in moves =
       let control = (trace layout tape moves).control in
       let fits = (trace_is_orderly layout valid tape misses moves).queue in

@@ -20,7 +20,6 @@ use Rattle.ak_model.specs.Control.Answers.{answer}
 use Rattle.ak_model.specs.Control.LeafRows.{frame_row}
 use Rattle.ak_model.specs.Paging.Views.{view_of}
 use Rattle.ak_model.specs.Laws.OneLiveCopy.{OneCopy}
-use Rattle.ak_driver.specs.HonestRuns.{IsRoomy}
 use Rattle.ak_driver.proofs.Invariant.PageStates.{PageState, Unmapped, Blocked, IsInState}
 use Rattle.ak_driver.proofs.Invariant.PagesStand.{PagesStand}
 use Rattle.ak_driver.proofs.Pages.MovedPages.{free_low}
@@ -30,12 +29,12 @@ newest_over : (all : List Cycle) → list_all is_over all ≡ true → last_is_o
 newest_over [] h = refl
 newest_over (cycle ∷ older) h = (and_parts (is_over cycle) (list_all is_over older) h).0
 
-module _ (layout : Layout) (past : History) (states : ℕ → PageState) (control : Control) (valid : IsValid layout) (roomy : IsRoomy layout) (copies : OneCopy layout past) (old : PagesStand layout past states) where
+module _ (layout : Layout) (past : History) (states : ℕ → PageState) (control : Control) (valid : IsValid layout) (copies : OneCopy layout past) (old : PagesStand layout past states) where
   -- the kernel may map each program page
   pub set_granted : (p f : ℕ) (flags : Flags) → p < pages layout → answer layout past control (SetPte (record { 0 = p }) (record { 0 = f }) flags) ≡ Ok
   set_granted p f flags low =
-      let e = roomy.is_sealed in let b : nat_lt p (all_pages layout) ≡ true = lt-ltb p (all_pages layout) (omega arith) in
-      rw (e, b) refl
+      let b : nat_lt p (all_pages layout) ≡ true = lt-ltb p (all_pages layout) (omega arith) in
+      rw b refl
 
   -- a frame of the page cache that is not the first
   frame_fine : (f : ℕ) (a : Answer) → 8 ≤ f → f < layout.frames → frame_row (view_of layout past) f a ≡ a

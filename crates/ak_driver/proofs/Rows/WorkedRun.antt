@@ -56,7 +56,7 @@ honest_run : IsHonestRun image_j tape_j [] all_moves
 unfolding all_moves
 honest_run = record {
   valid = valid_j;
-  roomy = record { is_sealed = refl; room = omega arith };
+  roomy = record { room = omega arith };
   misses = (omega arith, refl, (omega arith, refl, (omega arith, refl, (omega arith, refl, (omega arith, refl, tt)))));
   unbroken = refl;
   driven = auto_driven image_j tape_j [] 60 [] tt;

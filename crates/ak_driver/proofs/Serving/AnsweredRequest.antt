@@ -22,10 +22,10 @@ use Rattle.ak_driver.proofs.Serving.Finding.{Each, of_listed, among_listed}
 use Rattle.ak_driver.proofs.Serving.StateViews.{out_or, mapped_in}
 
 module _ (layout : Layout) (past : History) (control : Control) (c : ℕ) (rest : Progress) (states : ℕ → PageState) (copies : OneCopy layout past) (old : IsHonest layout past control (Requested c) rest states)
-    (gone : Each (λ p. is_some (frame_of layout past p) ≡ false) (flat_map (pages_of layout) (dropped_for (service layout past).request)))
+    (gone : Each (λ p. is_some (frame_of layout past p) ≡ false) (flat_map (pages_of layout) (dropped_for (service past).request)))
     (mapped : Each (λ p. not (is_mapped layout past p) ≡ false) (pages_of layout c)) where
   abbrev leaving : List ℕ
-  leaving = dropped_for (service layout past).request
+  leaving = dropped_for (service past).request
 
   no_frame : (o : Option ℕ) → is_some o ≡ false → is_none o ≡ true
   no_frame None h = refl

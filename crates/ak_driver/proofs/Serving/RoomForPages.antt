@@ -15,7 +15,7 @@ use Rattle.ak_model.specs.Clusters.Queue.{is_in, total_size}
 use Rattle.ak_model.specs.Control.ControlState.{Control}
 use Rattle.ak_model.specs.Kernels.Counted.{service}
 use Rattle.ak_model.specs.Kernels.HonestKernel.{lowest_free}
-use Rattle.ak_model.specs.Laws.Orderly.{FitBudget, PhaseFits, IsOrderly}
+use Rattle.ak_model.specs.Laws.Orderly.{PhaseFits, IsOrderly}
 use Rattle.ak_model.proofs.Clusters.SizesAddUp.{size_is}
 use Rattle.ak_model.specs.Laws.OneLiveCopy.{OneCopy}
 use Rattle.ak_driver.specs.HonestRuns.{IsRoomy}
@@ -90,7 +90,7 @@ spare_holds layout (PageFrame p) s e = (refl, s)
 module _ (layout : Layout) (past : History) (control : Control) (c : ℕ) (rest : Progress) (states : ℕ → PageState) (valid : IsValid layout) (roomy : IsRoomy layout) (copies : OneCopy layout past)
     (old : IsHonest layout past control (Requested c) rest states) (fits : total_size layout rest.queue + size_of layout.cluster_of c ≤ layout.budget) where
   abbrev leaving : List ℕ
-  leaving = dropped_for (service layout past).request
+  leaving = dropped_for (service past).request
 
   -- a page that is out is in no frame
   out_unframed : (p f : ℕ) → p < pages layout → states p ≡ Out → held layout past f ≡ PageFrame p → ⊥
@@ -151,9 +151,9 @@ module _ (layout : Layout) (past : History) (control : Control) (c : ℕ) (rest 
   has_room gone p low of out = free_frame gone p low of out
 
 -- what the laws of the control state say of the budget
-pub asked_fits : (layout : Layout) (past : History) (control : Control) (c : ℕ) (rest : Progress) (states : ℕ → PageState) → IsRoomy layout → IsHonest layout past control (Requested c) rest states
+pub asked_fits : (layout : Layout) (past : History) (control : Control) (c : ℕ) (rest : Progress) (states : ℕ → PageState) → IsHonest layout past control (Requested c) rest states
     → (so_far : List ℕ) (someone : Bool) → IsOrderly layout so_far someone control → total_size layout rest.queue + size_of layout.cluster_of c ≤ layout.budget
-asked_fits layout past control c rest states roomy old so_far someone orderly =
+asked_fits layout past control c rest states old so_far someone orderly =
     let phase : PhaseFits layout (control_at (Requested c) rest).queue (control_at (Requested c) rest).cause (control_at (Requested c) rest).phase =
     subst (λ k. PhaseFits layout k.queue k.cause k.phase) old.control_is orderly.phase in
-    subst (λ b. FitBudget b layout (total_size layout rest.queue + size_of layout.cluster_of c)) roomy.is_sealed phase.2
+    phase.2

@@ -16,7 +16,6 @@ use Rattle.ak_model.specs.Kernels.KernelRules.{is_mapped}
 use Rattle.ak_model.specs.Clusters.Queue.{is_in}
 use Rattle.ak_model.specs.Kernels.HonestKernel.{frame_in, frame_of, newest_copy, on_frame, move_on, load_into, Rule, Passes, Gives, or_else, rule_on, unmap_evicted, block_rule, track_rule, write_out_rule, load_rule, map_rule, enter_with, serve}
 use Rattle.ak_model.specs.Laws.OneLiveCopy.{OneCopy}
-use Rattle.ak_driver.specs.HonestRuns.{IsRoomy}
 use Rattle.ak_driver.proofs.Invariant.PageStates.{PageState, Out, Blocked, In}
 use Rattle.ak_driver.proofs.Invariant.Spots.{Requested, Progress}
 use Rattle.ak_driver.proofs.Invariant.HonestMoments.{IsHonest, IsFetched, IsMoving, dropped_for}
@@ -25,9 +24,9 @@ use Rattle.ak_driver.proofs.Serving.Finding.{Each, each_both, Found, finds, IsOf
 use Rattle.ak_driver.proofs.Serving.ServingSteps.{serves_unmap, serves_block, serves_track, serves_write, serves_load, serves_map}
 use Rattle.ak_driver.proofs.Serving.StateViews.{present_in, in_present, unmapped_or, blocked_or, out_or, unmapped_in}
 
-module _ (layout : Layout) (past : History) (control : Control) (c : ℕ) (rest : Progress) (states : ℕ → PageState) (valid : IsValid layout) (roomy : IsRoomy layout) (copies : OneCopy layout past) (old : IsHonest layout past control (Requested c) rest states) (room : HasRoom layout past c states) where
+module _ (layout : Layout) (past : History) (control : Control) (c : ℕ) (rest : Progress) (states : ℕ → PageState) (valid : IsValid layout) (copies : OneCopy layout past) (old : IsHonest layout past control (Requested c) rest states) (room : HasRoom layout past c states) where
   abbrev pub leaving : List ℕ
-  leaving = dropped_for (service layout past).request
+  leaving = dropped_for (service past).request
 
   abbrev pub evicted : List ℕ
   evicted = flat_map (pages_of layout) leaving
@@ -81,18 +80,18 @@ module _ (layout : Layout) (past : History) (control : Control) (c : ℕ) (rest 
 
   unmap_ruled : Ruled Does (Each (λ p. is_present p ≡ false) evicted) (unmap_evicted layout past evicted)
   unmap_ruled = first_rule Does (IsAmong layout leaving) is_present evicted _ (each_among layout leaving)
-      (λ p h t. inl (serves_unmap layout past control c rest states valid roomy copies old p h.0 h.1 (present_in layout past states copies old.stands p h.0 t)))
+      (λ p h t. inl (serves_unmap layout past control c rest states valid copies old p h.0 h.1 (present_in layout past states copies old.stands p h.0 t)))
 
   block_ruled : Each (λ p. is_present p ≡ false) evicted → Ruled Does (Each (λ p. is_unblocked p ≡ false) evicted) (block_rule layout past evicted)
   block_ruled bare = first_rule Does (λ p. IsAmong layout leaving p × (is_present p ≡ false)) is_unblocked evicted _ (each_both _ _ evicted (each_among layout leaving) bare)
       (λ p h t.
       let v = unmapped_or layout past states copies old.stands p h.0.0 t (not_in p h.0.0 h.1) in
       subst (λ o. Ruled Does (Each (λ x. is_unblocked x ≡ false) evicted) (move_on o (λ f. Eblock (record { 0 = f })))) (sym (ap frame_in v.2))
-      (inl (serves_block layout past control c rest states valid roomy copies old p v.0 h.0.0 h.0.1 v.1 v.2)))
+      (inl (serves_block layout past control c rest states valid copies old p v.0 h.0.0 h.0.1 v.1 v.2)))
 
   track_ruled : Each (λ p. is_unblocked p ≡ false) evicted → Ruled Does (Each (λ p. is_untracked layout past p ≡ false) evicted) (track_rule layout past evicted)
   track_ruled blocked = first_rule Does (IsAmong layout leaving) (is_untracked layout past) evicted _ (each_among layout leaving)
-      (λ p h t. inl (serves_track layout past control c rest states valid roomy copies old blocked p h.0 h.1 t))
+      (λ p h t. inl (serves_track layout past control c rest states valid copies old blocked p h.0 h.1 t))
 
   write_ruled : Each (λ p. is_unblocked p ≡ false) evicted → Each (λ p. is_untracked layout past p ≡ false) evicted → Ruled Does (Each (λ p. is_some (frame_of layout past p) ≡ false) evicted) (write_out_rule layout past evicted)
   write_ruled blocked tracked_all = first_rule Does (λ p. IsAmong layout leaving p × ((is_unblocked p ≡ false) × (is_untracked layout past p ≡ false))) (λ p. is_some (frame_of layout past p)) evicted _
@@ -100,7 +99,7 @@ module _ (layout : Layout) (past : History) (control : Control) (c : ℕ) (rest 
       (λ p h t.
       let v = blocked_or layout past states copies old.stands p h.0.0 t h.1.0 h.1.1 in
       subst (λ o. Ruled Does (Each (λ x. is_some (frame_of layout past x) ≡ false) evicted) (move_on o (λ f. Ewb (record { 0 = f }) (record { 0 = 1 }) p))) (sym (ap frame_in v.2))
-      (inl (serves_write layout past control c rest states valid roomy copies old p v.0 h.0.0 h.0.1 v.1 v.2 v.3 tracked_all)))
+      (inl (serves_write layout past control c rest states valid copies old p v.0 h.0.0 h.0.1 v.1 v.2 v.3 tracked_all)))
 
   -- each page that leaves is out, where no evicted one is in a frame
   all_out : Each (λ p. is_some (frame_of layout past p) ≡ false) evicted → (q : ℕ) → q < pages layout → is_in leaving (cluster_at layout q) ≡ true → states q ≡ Out
@@ -118,7 +117,7 @@ module _ (layout : Layout) (past : History) (control : Control) (c : ℕ) (rest 
       let f = room (all_out gone) p h.0 h.1 v.1 in
       subst (λ o. Ruled Does (Each (λ x. is_none (frame_of layout past x) ≡ false) fetched) (load_into p (newest_copy layout past p) o)) (sym f.1)
       (subst (λ copy. Does (Eldu (record { 0 = f.0 }) (record { 0 = copy.handle }) (record { 0 = p }) (record { 0 = copy.va }) copy.slot)) (sym v.4)
-      (inl (serves_load layout past control c rest states valid roomy copies old p f.0 v.0 h.0 h.1 v.1 v.2 v.3 f.2 f.3 gone))))
+      (inl (serves_load layout past control c rest states valid copies old p f.0 v.0 h.0 h.1 v.1 v.2 v.3 f.2 f.3 gone))))
 
   -- a page that is fetched is not blocked
   never_blocked : (p : ℕ) → p < pages layout → cluster_at layout p ≡ c → states p ≡ Blocked → ⊥
@@ -137,7 +136,7 @@ module _ (layout : Layout) (past : History) (control : Control) (c : ℕ) (rest 
       (λ p h t.
       let v = unmapped_in layout past states copies old.stands p h.0.0 h.1 (not-true (is_mapped layout past p) t) (never_blocked p h.0.0 h.0.1) in
       subst (λ o. Ruled Does (Each (λ x. not (is_mapped layout past x) ≡ false) fetched) (move_on o (λ f. SetPte (record { 0 = p }) (record { 0 = f }) (strong_flags (perm_of layout p))))) (sym (ap frame_in v.2))
-      (inl (serves_map layout past control c rest states valid roomy copies old p v.0 h.0.0 h.0.1 v.1 v.2)))
+      (inl (serves_map layout past control c rest states valid copies old p v.0 h.0.0 h.0.1 v.1 v.2)))
 
   -- ---- All rules: a move is given, and it serves the request or enters once all is served
   all_served : Each (λ p. is_some (frame_of layout past p) ≡ false) evicted → Each (λ p. not (is_mapped layout past p) ≡ false) fetched → Ruled Does ⊥ (enter_with 0)

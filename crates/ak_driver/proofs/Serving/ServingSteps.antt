@@ -21,7 +21,6 @@ use Rattle.ak_model.specs.Kernels.KernelRules.{entered_since_ask}
 use Rattle.ak_model.specs.Stops.ShownStop.{shows_stop}
 use Rattle.ak_model.specs.Kernels.HonestKernel.{is_ended, frame_of, on_frame}
 use Rattle.ak_model.specs.Laws.OneLiveCopy.{OneCopy}
-use Rattle.ak_driver.specs.HonestRuns.{IsRoomy}
 use Rattle.ak_driver.proofs.Invariant.PageStates.{PageState, Out, Unmapped, Blocked, In, IsInState}
 use Rattle.ak_driver.proofs.Invariant.PagesStand.{PagesStand, with_state}
 use Rattle.ak_driver.proofs.Invariant.Spots.{Requested, Progress}
@@ -52,10 +51,10 @@ no_cycle true n e = absurd (cc)
 no_more : (n : ℕ) → n ≤ n
 no_more n = omega arith
 
-module _ (layout : Layout) (past : History) (control : Control) (c : ℕ) (rest : Progress) (states : ℕ → PageState) (valid : IsValid layout) (roomy : IsRoomy layout) (copies : OneCopy layout past) (old : IsHonest layout past control (Requested c) rest states) where
+module _ (layout : Layout) (past : History) (control : Control) (c : ℕ) (rest : Progress) (states : ℕ → PageState) (valid : IsValid layout) (copies : OneCopy layout past) (old : IsHonest layout past control (Requested c) rest states) where
   -- the clusters that leave
   abbrev pub leaving : List ℕ
-  leaving = dropped_for (service layout past).request
+  leaving = dropped_for (service past).request
 
   -- where a page may be by its cluster
   abbrev pub May : ℕ → PageState → Type 0
@@ -82,7 +81,7 @@ module _ (layout : Layout) (past : History) (control : Control) (c : ℕ) (rest 
 
   -- a move of the tables, after which the pages are in these states
   keeps : (pair : Pair) → is_done pair.1 ≡ true → (next : ℕ → PageState) → PagesStand layout (pair ∷ past) next → ((q : ℕ) → q < pages layout → May q (next q))
-      → ((q : ℕ) → inside (pair ∷ past) q ≡ inside past q) → service layout (pair ∷ past) ≡ service layout past → is_ended (pair ∷ past) ≡ is_ended past → entered_since_ask (pair ∷ past) ≡ entered_since_ask past → shows_stop (pair ∷ past) ≡ shows_stop past
+      → ((q : ℕ) → inside (pair ∷ past) q ≡ inside past q) → service (pair ∷ past) ≡ service past → is_ended (pair ∷ past) ≡ is_ended past → entered_since_ask (pair ∷ past) ≡ entered_since_ask past → shows_stop (pair ∷ past) ≡ shows_stop past
       → IsHonest layout (pair ∷ past) control (Requested c) rest next
   keeps pair done next stands fits same_inside same_service same_ended same_asked same_stops = record {
     control_is = old.control_is;
@@ -122,7 +121,7 @@ module _ (layout : Layout) (past : History) (control : Control) (c : ℕ) (rest 
       → Serves layout past control c rest states (SetPte (record { 0 = p }) (record { 0 = 0 }) no_flags)
   serves_unmap p low h e = record {
     answer_is = Ok;
-    answered = set_granted layout past states control valid roomy copies old.stands p 0 no_flags low;
+    answered = set_granted layout past states control valid copies old.stands p 0 no_flags low;
     done = refl;
     states = with_state states p Unmapped;
     holds = keeps (SetPte (record { 0 = p }) (record { 0 = 0 }) no_flags, Ok) refl (with_state states p Unmapped) (unmaps layout past states old.stands p 0 low e) (fits_with p Unmapped (leaves_may p Unmapped h)) (λ q. refl) refl refl refl refl;
@@ -138,7 +137,7 @@ module _ (layout : Layout) (past : History) (control : Control) (c : ℕ) (rest 
       → Serves layout past control c rest states (Eblock (record { 0 = f }))
   serves_block p f low h e at = record {
     answer_is = Ok;
-    answered = block_granted layout past states control valid roomy copies old.stands p f low e at;
+    answered = block_granted layout past states control valid copies old.stands p f low e at;
     done = refl;
     states = with_state states p Blocked;
     holds = keeps (Eblock (record { 0 = f }), Ok) refl (with_state states p Blocked) (blocks layout past states old.stands copies p f low e at) (fits_with p Blocked (leaves_may p Blocked h)) (λ q. refl) refl refl refl refl;
@@ -154,7 +153,7 @@ module _ (layout : Layout) (past : History) (control : Control) (c : ℕ) (rest 
       → Serves layout past control c rest states Etrack
   serves_track blocked p low h t = record {
     answer_is = Ok;
-    answered = track_granted layout past states control valid roomy copies old.stands;
+    answered = track_granted layout past states control valid copies old.stands;
     done = refl;
     states = states;
     holds = keeps (Etrack, Ok) refl states (tracks layout past states old.stands (nobody layout past control (Requested c) rest states old refl)) old.fits (λ q. refl) refl refl refl refl;
@@ -170,7 +169,7 @@ module _ (layout : Layout) (past : History) (control : Control) (c : ℕ) (rest 
       → Serves layout past control c rest states (Ewb (record { 0 = f }) (record { 0 = 1 }) p)
   serves_write p f low h e at done all = record {
     answer_is = OkHandle (record { 0 = given layout past });
-    answered = write_granted layout past states control valid roomy copies old.stands p f low e at done;
+    answered = write_granted layout past states control valid copies old.stands p f low e at done;
     done = refl;
     states = with_state states p Out;
     holds = keeps (Ewb (record { 0 = f }) (record { 0 = 1 }) p, OkHandle (record { 0 = given layout past })) refl (with_state states p Out) (writes_out layout past states old.stands copies p f low e at) (fits_with p Out (leaves_may p Out h)) (λ q. refl) refl refl refl refl;
@@ -186,7 +185,7 @@ module _ (layout : Layout) (past : History) (control : Control) (c : ℕ) (rest 
       → Serves layout past control c rest states (Eldu (record { 0 = f }) (record { 0 = k }) (record { 0 = p }) (record { 0 = 1 }) p)
   serves_load p f k low h e at full free high gone = record {
     answer_is = Ok;
-    answered = load_granted layout past states control valid roomy copies old.stands p f k low at full free high;
+    answered = load_granted layout past states control valid copies old.stands p f k low at full free high;
     done = refl;
     states = with_state states p Unmapped;
     holds = keeps (Eldu (record { 0 = f }) (record { 0 = k }) (record { 0 = p }) (record { 0 = 1 }) p, Ok) refl (with_state states p Unmapped) (loads layout past states old.stands copies p f k low e free high) (fits_with p Unmapped (fetched_may p Unmapped h (λ b. cc))) (λ q. refl) refl refl refl refl;
@@ -202,7 +201,7 @@ module _ (layout : Layout) (past : History) (control : Control) (c : ℕ) (rest 
       → Serves layout past control c rest states (SetPte (record { 0 = p }) (record { 0 = f }) (strong_flags (perm_of layout p)))
   serves_map p f low h e at = record {
     answer_is = Ok;
-    answered = set_granted layout past states control valid roomy copies old.stands p f (strong_flags (perm_of layout p)) low;
+    answered = set_granted layout past states control valid copies old.stands p f (strong_flags (perm_of layout p)) low;
     done = refl;
     states = with_state states p In;
     holds = keeps (SetPte (record { 0 = p }) (record { 0 = f }) (strong_flags (perm_of layout p)), Ok) refl (with_state states p In) (maps layout past states old.stands p low e f at) (fits_with p In (fetched_may p In h (λ b. cc))) (λ q. refl) refl refl refl refl;

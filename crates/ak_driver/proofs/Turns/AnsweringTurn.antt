@@ -6,11 +6,10 @@ use Rattle.ak_core.specs.Mem.{Access}
 use Rattle.ak_model.specs.Paging.Pages.{pages_of, strong_kind}
 use Rattle.ak_model.specs.Paging.Histories.{History}
 use Rattle.ak_model.specs.Paging.Walk.{walkable}
-use Rattle.ak_model.specs.Paging.Build.{steps_walk}
 use Rattle.ak_model.specs.Control.ControlState.{Context, Enter, Probe, Finish}
 use Rattle.ak_model.specs.Kernels.Counted.{Service as Counted, Request, with_served}
 use Rattle.ak_model.specs.Stops.ShownStop.{has_break}
-use Rattle.ak_model.specs.Control.RuntimeTurn.{accesses, step_fault, unless_fault}
+use Rattle.ak_model.specs.Control.RuntimeTurn.{accesses, first_fault, unless_fault}
 use Rattle.ak_model.specs.Control.Runs.{turn}
 use Rattle.ak_driver.proofs.Invariant.Untouched.{Untouched}
 use Rattle.ak_driver.proofs.Invariant.Spots.{Begins, Probes, Finishes, Spot, Answering, Resumable, Progress, control_at}
@@ -18,7 +17,6 @@ use Rattle.ak_driver.proofs.Invariant.HonestMoments.{IsPlain}
 use Rattle.ak_driver.proofs.Invariant.TurnsLead.{GoesOn, Leads}
 use Rattle.ak_driver.proofs.Turns.QueuesHold.{more_in}
 use Rattle.ak_driver.proofs.Pages.WalkedPages.{ssa_walks, state_walks, code_walks}
-use Rattle.ak_driver.proofs.Turns.TurnCases.{both_none}
 
 -- after it was served no request is open
 served_closed : (service : Counted) (o : Option Request) → service.request ≡ o → (with_served service o).request ≡ None
@@ -28,22 +26,22 @@ served_closed service (Some request) e = refl
 module _ (layout : Layout) (past : History) (untouched : Untouched layout past) (service : Counted) (rest : Progress) (queue_is : service.queue ≡ rest.queue) (whole : has_break rest.rest ≡ false) where
   -- the accesses of a step whose own accesses are none, or the oldest saved-state area
   abbrev steps_over : Spot → Context → Option Access
-  steps_over spot context = step_fault layout past (accesses layout (control_at spot rest) context)
+  steps_over spot context = first_fault layout past (accesses layout (control_at spot rest) context)
 
   pub begins_quiet : (cluster v : ℕ) → steps_over (Answering cluster (Begins v)) (Enter 1 v) ≡ None
   begins_quiet cluster v =
       let c = code_walks layout past untouched in let s = state_walks layout past untouched in let a = ssa_walks layout past untouched 0 (omega arith) in
-      both_none (steps_walk layout.build) _ (rw (c, s, a) refl)
+      rw (c, s, a) refl
 
   pub finish_quiet : (cluster : ℕ) → steps_over (Answering cluster Finishes) Finish ≡ None
   finish_quiet cluster =
       let c = code_walks layout past untouched in let s = state_walks layout past untouched in let a = ssa_walks layout past untouched 0 (omega arith) in
-      both_none (steps_walk layout.build) _ (rw (c, s, a) refl)
+      rw (c, s, a) refl
 
   pub probe_quiet : (cluster i : ℕ) → (let p = slice_index (pages_of layout cluster) i in walkable layout past p (strong_kind layout p)) ≡ true → steps_over (Answering cluster (Probes i)) (Probe i) ≡ None
   probe_quiet cluster i found =
       let c = code_walks layout past untouched in let s = state_walks layout past untouched in
-      both_none (steps_walk layout.build) _ (rw (c, s, found) refl)
+      rw (c, s, found) refl
 
   -- ---- The runtime probes what was fetched
 

@@ -15,9 +15,8 @@ use Rattle.ak_model.specs.Clusters.Queue.{is_in}
 use Rattle.ak_model.specs.Control.ControlState.{Control, cssa}
 use Rattle.ak_model.specs.Kernels.Counted.{service}
 use Rattle.ak_model.specs.Kernels.Repeats.{was_refused, same_move, is_done}
-use Rattle.ak_model.specs.Control.Answers.{answer, if_outside, finds_tcs, finds_ssa}
+use Rattle.ak_model.specs.Control.Answers.{answer, if_outside, finds_ssa}
 use Rattle.ak_model.specs.Control.Entering.{entered, resumed_by}
-use Rattle.ak_model.specs.Paging.Build.{entering_walks}
 use Rattle.ak_driver.proofs.Invariant.PageStates.{PageState}
 use Rattle.ak_driver.proofs.Invariant.Untouched.{Untouched}
 use Rattle.ak_driver.proofs.Invariant.Spots.{Spot, Idle, Entered, InProgram, Leaving, Left, Handling, Requested, Answering, Resumable, Over, Progress, control_at, is_within, asks, is_requested}
@@ -42,12 +41,12 @@ module _ (layout : Layout) (past : History) (valid : IsValid layout) (untouched 
   outside_fine a =
       let some = valid.some_lp in let there : nat_lt 0 layout.lps ≡ true = lt-ltb 0 layout.lps (omega arith) in
       let out = nobody 0 in
-      let t : finds_tcs layout past ≡ true = let w = tcs_walks layout past untouched in rw w (or_true (not (entering_walks layout.build))) in
+      let t = tcs_walks layout past untouched in
       let others : another_inside layout past 0 ≡ false = nobody_listed (λ q. inside past q && not (q == 0)) (processors layout) (λ q. let o = nobody q in rw o refl) in
       rw (there, out, t, others) refl
 
   finds : (k : ℕ) → k < 3 → finds_ssa layout past k ≡ true
-  finds k low = let w = ssa_walks layout past untouched k low in rw w (or_true (not (entering_walks layout.build)))
+  finds k low = ssa_walks layout past untouched k low
 
   pub enter_granted : (control : Control) (v k : ℕ) → cssa control ≡ k → k < 3 → answer layout past control (Eenter (record { 0 = 0 }) v) ≡ Ok
   enter_granted control v k e low =
@@ -86,8 +85,8 @@ module _ (layout : Layout) (past : History) (control : Control) (spot : Spot) (r
   nobody q = let e = old.inside_is q in let o = out in e ∙ rw o refl
 
   module _ (next : Spot) (within : is_within next ≡ true) (asking : asks next ≡ asks spot) (going : is_over_at spot ≡ false) (goes : is_over_at next ≡ false)
-      (fits : (p : ℕ) → p < pages layout → MayBe next (is_in rest.queue (cluster_at layout p)) (is_in (dropped_for (service layout past).request) (cluster_at layout p)) (cluster_at layout p) (states p))
-      (apart : AreApart next rest.queue (dropped_for (service layout past).request)) where
+      (fits : (p : ℕ) → p < pages layout → MayBe next (is_in rest.queue (cluster_at layout p)) (is_in (dropped_for (service past).request) (cluster_at layout p)) (cluster_at layout p) (states p))
+      (apart : AreApart next rest.queue (dropped_for (service past).request)) where
     -- an entering leads from a spot with nobody inside to one with a processor inside
     pub enters : (v : ℕ) → entered (control_at spot rest) v ≡ control_at next rest
         → IsHonest layout ((Eenter (record { 0 = 0 }) v, Ok) ∷ past) (entered control v) next rest states

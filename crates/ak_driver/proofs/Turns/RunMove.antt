@@ -106,8 +106,8 @@ module _ (layout : Layout) (past : History) (control : Control) (spot : Spot) (r
     left_inside lp = subst (λ c. is_some (since_after c lp (length past + 1) (since past lp)) ≡ (false && (lp == 0))) (sym is)
         (left_alone (lp == 0) (since past lp) (let i = old.inside_is lp in let w = within in rw w at i))
 
-    left_service : service layout (pair ∷ past) ≡ service_by exit (service layout past)
-    left_service = ap (λ c. service_after c (service layout past)) is
+    left_service : service (pair ∷ past) ≡ service_by exit (service past)
+    left_service = ap (λ c. service_after c (service past)) is
 
     left_ended : is_ended (pair ∷ past) ≡ is_end exit
     left_ended =
@@ -120,18 +120,18 @@ module _ (layout : Layout) (past : History) (control : Control) (spot : Spot) (r
 
   -- ---- The move
 
-  module _ (valid : IsValid layout) (copies : OneCopy layout past) (so_far : List ℕ) (orderly : IsOrderly layout so_far true control) (counted : (service layout past).queue ≡ rest.queue) (n : ℕ) where
+  module _ (valid : IsValid layout) (copies : OneCopy layout past) (so_far : List ℕ) (orderly : IsOrderly layout so_far true control) (counted : (service past).queue ≡ rest.queue) (n : ℕ) where
     pub run_answered : answer layout past control (Run (record { 0 = 0 }) n) ≡ Answer.Exit (run layout past n control).exit
     run_answered =
         let some = valid.some_lp in let there : nat_lt 0 layout.lps ≡ true = lt-ltb 0 layout.lps (omega arith) in
         let w : inside past 0 ≡ true = let i = old.inside_is 0 in let w = within in rw w at i in
         rw (there, w) refl
 
-    leads : RunLeads (service layout past) spot rest (run layout past n control)
+    leads : RunLeads (service past) spot rest (run layout past n control)
     leads =
         let o = subst (λ c. IsOrderly layout so_far true c) old.control_is orderly in
-        subst (λ c. RunLeads (service layout past) spot rest (run layout past n c)) (sym old.control_is)
-        (run_leads layout past states valid copies old.stands (service layout past) n spot rest so_far within counted old.unbroken old.fits o)
+        subst (λ c. RunLeads (service past) spot rest (run layout past n c)) (sym old.control_is)
+        (run_leads layout past states valid copies old.stands (service past) n spot rest so_far within counted old.unbroken old.fits o)
 
     -- the run keeps the invariant, and is outside after it unless it is still going
     abbrev pub RunsTo : Exit → Control → Type 0
@@ -146,8 +146,8 @@ module _ (layout : Layout) (past : History) (control : Control) (spot : Spot) (r
         control_is = g.control_is;
         inside_is = λ lp. let i = old.inside_is lp in let w = within in let v = g.within in rw v (rw w at i);
         stands = record { untouched = record { same = old.stands.untouched.same; over = old.stands.untouched.over }; each = old.stands.each };
-        fits = λ p low. subst (λ q. MayBe g.next (is_in q (cluster_at layout p)) (is_in (dropped_for (service layout past).request) (cluster_at layout p)) (cluster_at layout p) (states p)) (sym g.queue) (g.fits (is_in rest.queue (cluster_at layout p)) (is_in (dropped_for (service layout past).request) (cluster_at layout p)) (cluster_at layout p) (states p) (old.fits p low));
-        apart = subst (λ q. AreApart g.next q (dropped_for (service layout past).request)) (sym g.queue) (g.apart rest.queue (dropped_for (service layout past).request) old.apart);
+        fits = λ p low. subst (λ q. MayBe g.next (is_in q (cluster_at layout p)) (is_in (dropped_for (service past).request) (cluster_at layout p)) (cluster_at layout p) (states p)) (sym g.queue) (g.fits (is_in rest.queue (cluster_at layout p)) (is_in (dropped_for (service past).request) (cluster_at layout p)) (cluster_at layout p) (states p) (old.fits p low));
+        apart = subst (λ q. AreApart g.next q (dropped_for (service past).request)) (sym g.queue) (g.apart rest.queue (dropped_for (service past).request) old.apart);
         closed = λ a. old.closed (sym g.asking ∙ a);
         waits = λ a. absurd (within_resumable g.next g.within a);
         unstopped = old.unstopped;
@@ -158,7 +158,7 @@ module _ (layout : Layout) (past : History) (control : Control) (spot : Spot) (r
       λ h. absurd (h refl),
     )
 
-    after_left : (exit : Exit) (next : Control) → LeavesFor (service layout past) spot rest exit next → RunsTo exit next
+    after_left : (exit : Exit) (next : Control) → LeavesFor (service past) spot rest exit next → RunsTo exit next
     after_left exit next l =
         let pair : Pair = (Run (record { 0 = 0 }) n, Answer.Exit exit) in
         let is = left_change n exit l.left in
@@ -185,6 +185,6 @@ module _ (layout : Layout) (past : History) (control : Control) (spot : Spot) (r
     pub runs : RunsTo (run layout past n control).exit (run layout past n control).control
     runs = by leads
       where
-        by : RunLeads (service layout past) spot rest (run layout past n control) → RunsTo (run layout past n control).exit (run layout past n control).control
+        by : RunLeads (service past) spot rest (run layout past n control) → RunsTo (run layout past n control).exit (run layout past n control).control
         by (inl s) = after_still (run layout past n control).exit (run layout past n control).control s.0 s.1
         by (inr l) = after_left (run layout past n control).exit (run layout past n control).control l

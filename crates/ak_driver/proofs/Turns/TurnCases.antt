@@ -1,16 +1,15 @@
 -- Each turn of an honest run: no access of the runtime faults, and the turn leads to a spot.
 use Rattle.std.proofs.Common.{◌≡◌, ℕ, zero, suc, [], ◌∷◌, ◌++◌, drop, arith, refl, sym, subst}
-use Rattle.std.specs.Prelude.{Bool, true, false, if◌then◌else◌, Option, None, ◌==◌}
+use Rattle.std.specs.Prelude.{Bool, true, false, Option, None, ◌==◌}
 use Rattle.ak_core.specs.Layout.{Layout}
 use Rattle.ak_core.specs.Mem.{Access}
 use Rattle.ak_model.specs.Paging.Histories.{History}
 use Rattle.ak_model.specs.Clusters.Queue.{is_in, drops}
-use Rattle.ak_model.specs.Paging.Build.{steps_walk}
 use Rattle.ak_model.specs.Control.ControlState.{Context, Enter, Leave}
 use Rattle.ak_model.specs.Kernels.Counted.{Service as Counted}
 use Rattle.ak_model.specs.Laws.Orderly.{IsDistinct}
 use Rattle.ak_model.specs.Stops.ShownStop.{has_break}
-use Rattle.ak_model.specs.Control.RuntimeTurn.{accesses, step_fault, unless_fault}
+use Rattle.ak_model.specs.Control.RuntimeTurn.{accesses, first_fault, unless_fault}
 use Rattle.ak_model.specs.Control.Runs.{turn}
 use Rattle.ak_driver.proofs.Invariant.Untouched.{Untouched}
 use Rattle.ak_driver.proofs.Invariant.Spots.{Fault, ByVector, ByDenial, ByMiss, ByStatus, ByTrap, Spot, Idle, Entered, InProgram, Leaving, Handling, Requested, Over, Progress, control_at, guard_saved}
@@ -18,29 +17,25 @@ use Rattle.ak_driver.proofs.Invariant.TurnsLead.{Leads}
 use Rattle.ak_driver.proofs.Turns.QueuesHold.{asks, apart_in, none_taken}
 use Rattle.ak_driver.proofs.Pages.WalkedPages.{ssa_walks, state_walks, code_walks}
 
-pub both_none : (b : Bool) (o : Option Access) → o ≡ None → (if b then o else None) ≡ None
-both_none true o e = e
-both_none false o e = refl
-
 module _ (layout : Layout) (past : History) (untouched : Untouched layout past) (service : Counted) (rest : Progress) (queue_is : service.queue ≡ rest.queue) (whole : has_break rest.rest ≡ false) where
   -- the accesses of a step whose own accesses are none, or the oldest saved-state area
   abbrev steps_over : Spot → Context → Option Access
-  steps_over spot context = step_fault layout past (accesses layout (control_at spot rest) context)
+  steps_over spot context = first_fault layout past (accesses layout (control_at spot rest) context)
 
   entered_quiet : (called : Bool) (v : ℕ) → steps_over (Entered called v) (Enter 0 v) ≡ None
   entered_quiet called v =
       let c = code_walks layout past untouched in let s = state_walks layout past untouched in
-      both_none (steps_walk layout.build) _ (rw (c, s) refl)
+      rw (c, s) refl
 
   leaving_quiet : (b a : ℕ) → steps_over (Leaving b a) (Leave b a) ≡ None
   leaving_quiet b a =
       let c = code_walks layout past untouched in let s = state_walks layout past untouched in
-      both_none (steps_walk layout.build) _ (rw (c, s) refl)
+      rw (c, s) refl
 
   handling_quiet : (fault : Fault) (v : ℕ) → steps_over (Handling fault v) (Enter 1 v) ≡ None
   handling_quiet fault v =
       let c = code_walks layout past untouched in let s = state_walks layout past untouched in let a = ssa_walks layout past untouched 0 (omega arith) in
-      both_none (steps_walk layout.build) _ (rw (c, s, a) refl)
+      rw (c, s, a) refl
 
   -- ---- The program begins, or goes on after a call
 

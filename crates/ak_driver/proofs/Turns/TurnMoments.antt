@@ -39,8 +39,8 @@ module _ (layout : Layout) (past : History) (control : Control) (spot : Spot) (r
         control_is = g.control_is;
         inside_is = λ lp. let i = old.inside_is lp in let w = within in let v = g.within in rw v (rw w at i);
         stands = old.stands;
-        fits = λ p low. subst (λ q. MayBe g.next (is_in q (cluster_at layout p)) (is_in (dropped_for (service layout past).request) (cluster_at layout p)) (cluster_at layout p) (states p)) (sym g.queue) (g.fits (is_in rest.queue (cluster_at layout p)) (is_in (dropped_for (service layout past).request) (cluster_at layout p)) (cluster_at layout p) (states p) (old.fits p low));
-        apart = subst (λ q. AreApart g.next q (dropped_for (service layout past).request)) (sym g.queue) (g.apart rest.queue (dropped_for (service layout past).request) old.apart);
+        fits = λ p low. subst (λ q. MayBe g.next (is_in q (cluster_at layout p)) (is_in (dropped_for (service past).request) (cluster_at layout p)) (cluster_at layout p) (states p)) (sym g.queue) (g.fits (is_in rest.queue (cluster_at layout p)) (is_in (dropped_for (service past).request) (cluster_at layout p)) (cluster_at layout p) (states p) (old.fits p low));
+        apart = subst (λ q. AreApart g.next q (dropped_for (service past).request)) (sym g.queue) (g.apart rest.queue (dropped_for (service past).request) old.apart);
         closed = λ a. old.closed (sym g.asking ∙ a);
         waits = λ a. absurd (within_resumable g.next g.within a);
         unstopped = old.unstopped;
@@ -52,11 +52,11 @@ module _ (layout : Layout) (past : History) (control : Control) (spot : Spot) (r
     copies,
   )
 
-  module _ (valid : IsValid layout) (so_far : List ℕ) (orderly : IsOrderly layout so_far true control) (counted : (service layout past).queue ≡ rest.queue) where
+  module _ (valid : IsValid layout) (so_far : List ℕ) (orderly : IsOrderly layout so_far true control) (counted : (service past).queue ≡ rest.queue) where
     turns_go : (n : ℕ) → EachGoes spot rest (before_turns layout past n control)
     turns_go n =
         subst (λ c. EachGoes spot rest (before_turns layout past n c)) (sym old.control_is)
-        (turns_hold layout past states valid copies old.stands (service layout past) n spot rest so_far within counted old.unbroken old.fits (subst (λ c. IsOrderly layout so_far true c) old.control_is orderly))
+        (turns_hold layout past states valid copies old.stands (service past) n spot rest so_far within counted old.unbroken old.fits (subst (λ c. IsOrderly layout so_far true c) old.control_is orderly))
 
     pub run_turns : (n : ℕ) → All (HonestAt layout) (turn_moments layout (record { past = past; control = control }) (Run (record { 0 = 0 }) n))
     run_turns n =

@@ -5,10 +5,8 @@ use Rattle.std.proofs.lemmas.Bool.{or_parts, or_from, eqb-false, ne_eqb}
 use Rattle.std.proofs.lemmas.List.Elements.{All-drop, All-push}
 use Rattle.std.proofs.lemmas.List.Sums.{sum_by-append}
 use Rattle.ak_core.specs.Layout.{Layout, size_of}
-use Rattle.ak_core.specs.declared.build.Build.{Build}
-use Rattle.ak_core.specs.declared.build.Build.TheVariants.{Resident, Sealed as SealedBuild}
 use Rattle.ak_model.specs.Clusters.Queue.{total_size, drops, is_in}
-use Rattle.ak_model.specs.Laws.Orderly.{IsDistinct, FitBudget, QueueFits}
+use Rattle.ak_model.specs.Laws.Orderly.{IsDistinct, QueueFits}
 use Rattle.ak_model.proofs.Clusters.FewestLeave.{drops_fit}
 
 -- what is out stays out, where some leave
@@ -43,32 +41,23 @@ module _ (layout : Layout) where
   total-append : (queue : List ℕ) (c : ℕ) → total_size layout (queue ++ c ∷ []) ≡ total_size layout queue + size_of layout.cluster_of c
   total-append queue c = let e = sum_by-append (size_of layout.cluster_of) queue (c ∷ []) in omega arith
 
-  -- more pages than fit do not
-  fewer_fit : (build : Build) (m n : ℕ) → m ≤ n → FitBudget build layout n → FitBudget build layout m
-  fewer_fit Resident m n le h = tt
-  fewer_fit SealedBuild m n le h = omega arith
-
-  drops_budget : (build : Build) (queue : List ℕ) (c : ℕ) → size_of layout.cluster_of c ≤ layout.budget → FitBudget build layout (total_size layout (drop (drops layout queue c) queue) + size_of layout.cluster_of c)
-  drops_budget Resident queue c h = tt
-  drops_budget SealedBuild queue c h = drops_fit layout c queue h
-
   -- what must leave for a missed cluster has left: the rest fits, with it and without it
-  pub dropped_fits : (queue : List ℕ) (c : ℕ) → size_of layout.cluster_of c ≤ layout.budget → QueueFits layout queue → QueueFits layout (drop (drops layout queue c) queue) × FitBudget layout.build layout (total_size layout (drop (drops layout queue c) queue) + size_of layout.cluster_of c)
+  pub dropped_fits : (queue : List ℕ) (c : ℕ) → size_of layout.cluster_of c ≤ layout.budget → QueueFits layout queue → QueueFits layout (drop (drops layout queue c) queue) × (total_size layout (drop (drops layout queue c) queue) + size_of layout.cluster_of c ≤ layout.budget)
   dropped_fits queue c small h =
       let d = drops layout queue c in
-      let fits : FitBudget layout.build layout (total_size layout (drop d queue) + size_of layout.cluster_of c) = drops_budget layout.build queue c small in (
+      let fits : total_size layout (drop d queue) + size_of layout.cluster_of c ≤ layout.budget = drops_fit layout c queue small in (
         record {
           distinct = distinct-drop d queue h.distinct;
           known = All-drop (λ x. x < layout.clusters) d queue h.known;
-          small = fewer_fit layout.build (total_size layout (drop d queue)) (total_size layout (drop d queue) + size_of layout.cluster_of c) (omega arith) fits;
+          small = omega arith;
         },
         fits,
       )
 
   -- the asked cluster comes in
-  pub appended_fits : (queue : List ℕ) (c : ℕ) → c < layout.clusters → is_in queue c ≡ false → FitBudget layout.build layout (total_size layout queue + size_of layout.cluster_of c) → QueueFits layout queue → QueueFits layout (queue ++ c ∷ [])
+  pub appended_fits : (queue : List ℕ) (c : ℕ) → c < layout.clusters → is_in queue c ≡ false → total_size layout queue + size_of layout.cluster_of c ≤ layout.budget → QueueFits layout queue → QueueFits layout (queue ++ c ∷ [])
   appended_fits queue c known out fits h = record {
     distinct = distinct-append queue c h.distinct out;
     known = All-push (λ x. x < layout.clusters) queue c h.known known;
-    small = subst (FitBudget layout.build layout) (sym (total-append queue c)) fits;
+    small = subst (λ n. n ≤ layout.budget) (sym (total-append queue c)) fits;
   }

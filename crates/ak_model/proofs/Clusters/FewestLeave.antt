@@ -3,7 +3,6 @@ use Rattle.std.proofs.Common.{◌≡◌, ℕ, zero, suc, ◌+◌, ◌≤◌, Lis
 use Rattle.std.specs.Prelude.{Bool, true, false, fold, nat_le, if◌then◌else◌}
 use Rattle.std.proofs.lemmas.Bool.{leb-true, leb-false}
 use Rattle.ak_core.specs.Layout.{Layout, size_of}
-use Rattle.ak_model.specs.Paging.Build.{queue_at_build}
 use Rattle.ak_model.specs.Clusters.Queue.{total_size, drops, after_miss, queue_after}
 
 -- the rest of the queue and c fit the budget
@@ -36,4 +35,4 @@ fold_more f b [] x = refl
 fold_more f b (y ∷ xs) x = fold_more f (f b y) xs x
 
 pub queue_after-more : (layout : Layout) (misses : List ℕ) (c : ℕ) → queue_after layout (misses ++ c ∷ []) ≡ after_miss layout (queue_after layout misses) c
-queue_after-more layout misses c = fold_more (after_miss layout) (queue_at_build layout.build layout) misses c
+queue_after-more layout misses c = fold_more (after_miss layout) [] misses c

@@ -4,7 +4,6 @@ use Rattle.std.specs.Prelude.{false, fold, Option, Some, None}
 use Rattle.ak_core.specs.Layout.{Layout, IsValid}
 use Rattle.ak_core.specs.declared.event.Event.{Event}
 use Rattle.ak_core.specs.declared.event.Event.TheVariants.{Call, Miss, Trap, Break}
-use Rattle.ak_model.specs.Paging.Build.{queue_at_build}
 use Rattle.ak_model.specs.Clusters.Queue.{drops, after_miss, queue_after, is_in}
 use Rattle.ak_model.specs.Laws.Orderly.{QueueFits}
 use Rattle.ak_model.specs.Laws.MissedClusters.{AreOut}
@@ -13,7 +12,7 @@ use Rattle.ak_model.specs.Tapes.ProgramTurns.{ProgramTurn}
 use Rattle.ak_model.specs.Sound.Forced.{EachTurn, missed_by, queue_by}
 use Rattle.ak_model.specs.Sound.ForcedMisses.{MissedBy}
 use Rattle.ak_model.proofs.Clusters.DistinctQueues.{out-drop, dropped_fits, appended_fits}
-use Rattle.ak_model.proofs.Clusters.ValidClusters.{clusters_fit, queue_fits}
+use Rattle.ak_model.proofs.Clusters.ValidClusters.{clusters_fit, none_fit}
 use Rattle.ak_model.proofs.Tapes.EventsTaken.{cluster_below, without_miss, with_miss}
 
 module _ (layout : Layout) (valid : IsValid layout) where
@@ -29,9 +28,9 @@ module _ (layout : Layout) (valid : IsValid layout) where
   all_fit queue (c ∷ misses) h fits =
       all_fit (after_miss layout queue c) misses h.2 (miss_fits queue c h.0 h.1 fits)
 
-  -- from the build on
-  pub misses_fit : (misses : List ℕ) → AreOut layout (queue_at_build layout.build layout) misses → QueueFits layout (queue_after layout misses)
-  misses_fit misses h = all_fit (queue_at_build layout.build layout) misses h (queue_fits layout)
+  -- the clusters that are in after these misses
+  pub misses_fit : (misses : List ℕ) → AreOut layout [] misses → QueueFits layout (queue_after layout misses)
+  misses_fit misses h = all_fit [] misses h (none_fit layout)
 
 module _ (layout : Layout) (valid : IsValid layout) (runs : FlatRuns) where
   turn_fits : (turn : ProgramTurn) (older : List ProgramTurn) (event : Option Event) → turn.event ≡ event → MissedBy layout runs turn older event → QueueFits layout (queue_by layout older) → QueueFits layout (queue_by layout (turn ∷ older))
@@ -45,7 +44,7 @@ module _ (layout : Layout) (valid : IsValid layout) (runs : FlatRuns) where
 
   -- the misses of turns that are forced
   pub turns_fit : (turns : List ProgramTurn) → EachTurn (λ turn. λ older. MissedBy layout runs turn older turn.event) turns → QueueFits layout (queue_by layout turns)
-  turns_fit [] h = queue_fits layout
+  turns_fit [] h = none_fit layout
   turns_fit (turn ∷ older) h = turn_fits turn older turn.event refl h.0 (turns_fit older h.1)
 
   -- at each turn

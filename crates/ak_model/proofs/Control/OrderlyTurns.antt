@@ -11,11 +11,10 @@ use Rattle.ak_core.specs.declared.event.Event.{Event}
 use Rattle.ak_core.specs.declared.event.Event.TheVariants.{Call, Miss, Trap, Break}
 use Rattle.ak_core.specs.declared.event.StopCause.TheVariants.{Stuck}
 use Rattle.ak_core.specs.declared.page.Kind.TheVariants.{Write, Exec}
-use Rattle.ak_model.specs.Paging.Build.{steps_walk}
 use Rattle.ak_model.specs.Paging.Histories.{History}
 use Rattle.ak_model.specs.Paging.Walk.{access_walkable}
 use Rattle.ak_model.specs.Control.ControlState.{Phase, New, Running, Calling, Asked, Ended, Trapped, Dead, Context, Program, Enter, Probe, Finish, Guard, Leave, Reason, Raised, Denied, Missed, Broke, Faulted, Saved, Cause, Named, Control, cssa, first_cause}
-use Rattle.ak_model.specs.Control.RuntimeTurn.{accesses, first_fault, step_fault, stuck_cause, shown_fault, fault, unless_fault, runtime_turn}
+use Rattle.ak_model.specs.Control.RuntimeTurn.{accesses, first_fault, stuck_cause, shown_fault, fault, unless_fault, runtime_turn}
 use Rattle.ak_model.specs.Control.EventTurn.{count_of, due, without_first, leave_program, event_turn, program_turn}
 use Rattle.ak_model.specs.Control.Runs.{turn_of, turn}
 use Rattle.ak_model.specs.Laws.Premises.{MissesFit}
@@ -74,9 +73,8 @@ module _ (layout : Layout) (so_far : List ℕ) where
   all_fit control Guard r h = (code_own, (state_own, tt))
   all_fit control (Leave b a) r h = (code_own, (state_own, tt))
 
-  faults_by : (walks : Bool) (past : History) (control : Control) (context : Context) (t : Access) → IsRuntime context → ContextFits layout control.phase (length control.stack) context → (if walks then first_fault layout past (accesses layout control context) else None) ≡ Some t → FaultFits layout control.phase context t
-  faults_by true past control context t r h e = found control.phase context (λ x. not (access_walkable layout past x)) (accesses layout control context) t (all_fit control context r h) e
-  faults_by false past control context t r h e = absurd (cc)
+  faults_fit : (past : History) (control : Control) (context : Context) (t : Access) → IsRuntime context → ContextFits layout control.phase (length control.stack) context → first_fault layout past (accesses layout control context) ≡ Some t → FaultFits layout control.phase context t
+  faults_fit past control context t r h e = found control.phase context (λ x. not (access_walkable layout past x)) (accesses layout control context) t (all_fit control context r h) e
 
   -- ---- A step that faults
 
@@ -221,8 +219,8 @@ module _ (layout : Layout) (so_far : List ℕ) where
 
     runtime_fits : (context : Context) → IsRuntime context → control.now ≡ Some context → ContextFits layout control.phase (length control.stack) context → TurnIsOrderly layout so_far (runtime_turn layout past control context)
     runtime_fits context r n fits =
-        unless_fits context (step_fault layout past (accesses layout control context)) n fits
-        (λ t e. faults_by (steps_walk layout.build) past control context t r fits e)
+        unless_fits context (first_fault layout past (accesses layout control context)) n fits
+        (λ t e. faults_fit past control context t r fits e)
 
     turn_by : (now : Option Context) → control.now ≡ now → NowFits layout control.phase control.stack now → TurnIsOrderly layout (after_turn layout so_far control now) (turn_of layout past control now)
     turn_by None n h = old

@@ -12,7 +12,7 @@ use Rattle.ak_core.specs.declared.moves.Move.{Move}
 use Rattle.ak_model.specs.Paging.Histories.{History, Exits, if_left}
 use Rattle.ak_model.specs.Paging.Inside.{since, inside}
 use Rattle.ak_model.specs.Control.ControlState.{Phase, New, Running, Calling, Asked, Ended, Trapped, Dead, Context, Program, Enter, Probe, Finish, Guard, Leave, Reason, Interrupted, Cleared, Raised, Denied, Missed, Broke, Faulted, Saved, Control, is_asked}
-use Rattle.ak_model.specs.Control.RuntimeTurn.{accesses, step_fault, handle, enter, finish, resume_guard, effect, unless_fault}
+use Rattle.ak_model.specs.Control.RuntimeTurn.{accesses, first_fault, handle, enter, finish, resume_guard, effect, unless_fault}
 use Rattle.ak_model.specs.Control.EventTurn.{due, event_turn}
 use Rattle.ak_model.specs.Control.OneTurn.{Turn, Goes, Leaves}
 use Rattle.ak_model.specs.Control.Runs.{turn_of, turn, Ran, go_on, run}
@@ -111,11 +111,11 @@ module _ (layout : Layout) where
   pub turns : (past : History) (control : Control) (now : Option Context) → TurnKeeps control (turn_of layout past control now)
   turns past control None = same control
   turns past control (Some Program) = events control (due control.count control.rest)
-  turns past control (Some (Enter k v)) = steps control (Enter k v) (step_fault layout past (accesses layout control (Enter k v)))
-  turns past control (Some (Probe i)) = steps control (Probe i) (step_fault layout past (accesses layout control (Probe i)))
-  turns past control (Some Finish) = steps control Finish (step_fault layout past (accesses layout control Finish))
-  turns past control (Some Guard) = steps control Guard (step_fault layout past (accesses layout control Guard))
-  turns past control (Some (Leave b a)) = steps control (Leave b a) (step_fault layout past (accesses layout control (Leave b a)))
+  turns past control (Some (Enter k v)) = steps control (Enter k v) (first_fault layout past (accesses layout control (Enter k v)))
+  turns past control (Some (Probe i)) = steps control (Probe i) (first_fault layout past (accesses layout control (Probe i)))
+  turns past control (Some Finish) = steps control Finish (first_fault layout past (accesses layout control Finish))
+  turns past control (Some Guard) = steps control Guard (first_fault layout past (accesses layout control Guard))
+  turns past control (Some (Leave b a)) = steps control (Leave b a) (first_fault layout past (accesses layout control (Leave b a)))
 
   -- ---- A run
 

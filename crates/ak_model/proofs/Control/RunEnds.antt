@@ -11,7 +11,7 @@ use Rattle.ak_core.specs.declared.event.Event.TheVariants.{Call, Miss, Trap, Bre
 use Rattle.ak_model.specs.Paging.Histories.{History}
 use Rattle.ak_model.specs.Control.ControlState.{Phase, New, Running, Calling, Asked, Ended, Trapped, Dead, Context, Program, Enter, Probe, Finish, Guard, Leave, Reason, Interrupted, Cleared, Raised, Denied, Missed, Broke, Faulted, Saved, Control, is_asked}
 use Rattle.ak_model.specs.Control.OneTurn.{Turn, Goes, Leaves}
-use Rattle.ak_model.specs.Control.RuntimeTurn.{accesses, step_fault, handle, enter, finish, resume_guard, leave_call, effect, unless_fault}
+use Rattle.ak_model.specs.Control.RuntimeTurn.{accesses, first_fault, handle, enter, finish, resume_guard, leave_call, effect, unless_fault}
 use Rattle.ak_model.specs.Control.EventTurn.{due, leave_program, event_turn}
 use Rattle.ak_model.specs.Control.RuntimeTurn.{shown_fault}
 use Rattle.ak_model.specs.Control.Runs.{turn_of, turn, Ran, go_on, run, unless_left, before_turns}
@@ -187,11 +187,11 @@ module _ (layout : Layout) (control : Control) where
   turn_by : (past : History) (now : Option Context) → control.now ≡ now → TurnSince control (turn_of layout past control now)
   turn_by past None n = since_start control
   turn_by past (Some Program) n = event_since (due control.count control.rest) n
-  turn_by past (Some (Enter k v)) n = unless_since (Enter k v) n (step_fault layout past (accesses layout control (Enter k v)))
-  turn_by past (Some (Probe i)) n = unless_since (Probe i) n (step_fault layout past (accesses layout control (Probe i)))
-  turn_by past (Some Finish) n = unless_since Finish n (step_fault layout past (accesses layout control Finish))
-  turn_by past (Some Guard) n = unless_since Guard n (step_fault layout past (accesses layout control Guard))
-  turn_by past (Some (Leave b a)) n = unless_since (Leave b a) n (step_fault layout past (accesses layout control (Leave b a)))
+  turn_by past (Some (Enter k v)) n = unless_since (Enter k v) n (first_fault layout past (accesses layout control (Enter k v)))
+  turn_by past (Some (Probe i)) n = unless_since (Probe i) n (first_fault layout past (accesses layout control (Probe i)))
+  turn_by past (Some Finish) n = unless_since Finish n (first_fault layout past (accesses layout control Finish))
+  turn_by past (Some Guard) n = unless_since Guard n (first_fault layout past (accesses layout control Guard))
+  turn_by past (Some (Leave b a)) n = unless_since (Leave b a) n (first_fault layout past (accesses layout control (Leave b a)))
 
 -- ---- A run
 

@@ -1,6 +1,6 @@
 -- The access at which a step faults is one that no walk finds.
 use Rattle.std.proofs.Common.{◌≡◌, List, [], ◌∷◌, refl, subst}
-use Rattle.std.specs.Prelude.{Bool, true, false, not, if◌then◌else◌, Option, Some, None}
+use Rattle.std.specs.Prelude.{Bool, true, false, not, if◌then◌else◌, Option, Some}
 use Rattle.ak_core.specs.Layout.{Layout}
 use Rattle.ak_core.specs.Mem.{Access}
 use Rattle.ak_model.specs.Paging.Histories.{History}
@@ -12,10 +12,6 @@ module _ (layout : Layout) (past : History) where
   not_walkable true x t later e go h = go h
   not_walkable false x t later e go h = let same : x ≡ t = cc in subst (λ y. access_walkable layout past y ≡ false) same e
 
-  first_unwalkable : (all : List Access) (t : Access) → first_fault layout past all ≡ Some t → access_walkable layout past t ≡ false
-  first_unwalkable [] t h = absurd (cc)
-  first_unwalkable (x ∷ all) t h = not_walkable (access_walkable layout past x) x t (first_fault layout past all) refl (first_unwalkable all t) h
-
-  pub unwalkable : (walks : Bool) (all : List Access) (t : Access) → (if walks then first_fault layout past all else None) ≡ Some t → access_walkable layout past t ≡ false
-  unwalkable true all t h = first_unwalkable all t h
-  unwalkable false all t h = absurd (cc)
+  pub unwalkable : (all : List Access) (t : Access) → first_fault layout past all ≡ Some t → access_walkable layout past t ≡ false
+  unwalkable [] t h = absurd (cc)
+  unwalkable (x ∷ all) t h = not_walkable (access_walkable layout past x) x t (first_fault layout past all) refl (unwalkable all t) h

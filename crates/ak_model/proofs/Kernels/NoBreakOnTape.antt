@@ -6,7 +6,6 @@ use Rattle.ak_core.specs.Layout.{Layout, IsValid}
 use Rattle.ak_core.specs.Journal.{Journal}
 use Rattle.ak_core.specs.declared.event.Event.{Event}
 use Rattle.ak_core.specs.declared.moves.Move.{Move}
-use Rattle.ak_model.specs.Paging.Build.{queue_at_build}
 use Rattle.ak_model.specs.Paging.Histories.{History}
 use Rattle.ak_model.specs.Control.ControlState.{Control, Cause}
 use Rattle.ak_model.specs.Control.Trace.{trace}
@@ -44,7 +43,7 @@ taken_unbroken (turn ∷ older) rest h k = taken_unbroken older (with_event turn
 -- ---- Turns
 
 module _ (layout : Layout) (runs : FlatRuns) where
-  module _ (valid : IsValid layout) (tape : List Event) (misses : MissesFit layout (queue_at_build layout.build layout) tape) where
+  module _ (valid : IsValid layout) (tape : List Event) (misses : MissesFit layout [] tape) where
     never_forced : (moves : List Move) (lp : ℕ) (control : Control) (older : List ProgramTurn) → StandsAt layout tape (keeps_mapped layout) moves lp control older → BreakIsForced layout runs (turn_at lp (trace layout tape moves).past control) older → ⊥
     never_forced moves lp control older at =
         let past : History = (trace layout tape moves).past in
@@ -67,9 +66,9 @@ module _ (image : List ℕ) (layout : Layout) (journal : Journal) (sound : Sound
       subst (λ rest. taken (turns_of layout journal) rest ≡ journal.events) sound.answers.taken
       (trace-taken layout journal.events (reverse journal.moves))
 
-  pub sound-misses : MissesFit layout (queue_at_build layout.build layout) journal.events
+  pub sound-misses : MissesFit layout [] journal.events
   sound-misses =
-      subst (MissesFit layout (queue_at_build layout.build layout)) all-taken
+      subst (MissesFit layout []) all-taken
       (misses-fit layout sound.valid (runs_of layout image journal) (turns_of layout journal) [] sound.misses.turns_miss tt)
 
   sound_breaks : EachTurn (λ turn. λ older. BrokenBy layout (runs_of layout image journal) turn older turn.event) (turns_of layout journal)

@@ -1,6 +1,6 @@
 -- Under a kernel that keeps its rules, no step of the runtime stops the enclave.
 use Rattle.std.proofs.Common.{◌≡◌, inl, inr, ℕ, zero, suc, ◌+◌, ◌-◌, ◌<◌, ◌≤◌, List, [], ◌∷◌, length, arith, refl, ap, ◌∙◌, subst}
-use Rattle.std.specs.Prelude.{Bool, true, false, if◌then◌else◌, Option, Some, None, is_some, slice_index}
+use Rattle.std.specs.Prelude.{Bool, true, false, Option, Some, None, is_some, slice_index}
 use Rattle.std.specs.List.{list_all, list_any}
 use Rattle.std.proofs.lemmas.Bool.{and_parts}
 use Rattle.std.proofs.lemmas.Bool.Decides.{nat_tests}
@@ -16,7 +16,6 @@ use Rattle.ak_model.specs.Control.ControlState.{Phase, New, Running, Calling, As
 use Rattle.ak_model.specs.Control.RuntimeTurn.{accesses, asked_pages, first_fault, runtime_turn}
 use Rattle.ak_model.specs.Control.Runs.{turn_of, turn}
 use Rattle.ak_model.specs.Kernels.KernelRules.{is_mapped, cluster_is_mapped, runtime_pages, keeps_mapped, keeps_fetched, entered_since_ask, probes_done, fetched_by}
-use Rattle.ak_model.specs.Paging.Build.{steps_walk}
 use Rattle.ak_model.specs.Control.ControlState.{Reason}
 use Rattle.ak_model.specs.Kernels.KernelRules.{is_past_probes}
 use Rattle.ak_model.specs.Laws.Orderly.{ContextFits, NowFits, StackFits, IsOrderly}
@@ -124,16 +123,12 @@ module _ (layout : Layout) where
 
   -- ---- One turn
 
-  none_by : (walks_are : Bool) (past : History) (all : List Fault) → AllWalk past all → (if walks_are then first_fault layout past all else None) ≡ None
-  none_by true past all h = no_fault past all h
-  none_by false past all h = refl
-
   module _ (past : History) (so_far : List ℕ) (control : Control) (mapped : keeps_mapped layout (record { past = past; control = control }) ≡ true) (fetched : keeps_fetched layout (record { past = past; control = control }) ≡ true) (someone : someone_inside layout past ≡ true) (orderly : IsOrderly layout so_far true control) (old : IsCalm (entered_since_ask past) control) (unbroken : control.now ≡ Some Program → is_break (due control.count control.rest) ≡ false) where
     step_calm : (context : Context) → control.now ≡ Some context → ContextFits layout control.phase (length control.stack) context → TurnCalm (entered_since_ask past) (runtime_turn layout past control context)
     step_calm context n h =
         let w = walks past control someone mapped in
         runtime_calm layout so_far (entered_since_ask past) control orderly old context n past
-        (none_by (steps_walk layout.build) past (accesses layout control context)
+        (no_fault past (accesses layout control context)
         (walk_all past control context w
         (λ i e a. probing past control i control.phase (n ∙ ap Some e) orderly.stack (one i e) (was i e a) a fetched) h))
       where

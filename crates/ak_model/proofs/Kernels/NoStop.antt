@@ -10,7 +10,6 @@ use Rattle.ak_core.specs.declared.moves.Exit.{Exit}
 use Rattle.ak_core.specs.declared.moves.Exit.TheVariants.{Still, Ask}
 use Rattle.ak_core.specs.declared.event.Event.{Event}
 use Rattle.ak_core.specs.declared.moves.Move.{Move}
-use Rattle.ak_model.specs.Paging.Build.{queue_at_build}
 use Rattle.ak_model.specs.Paging.Histories.{History, Resumes, Exits, Interrupts, if_left}
 use Rattle.ak_model.specs.Paging.Inside.{inside, someone_inside}
 use Rattle.ak_model.specs.Control.ControlState.{Phase, Context, Program, Enter, Probe, Finish, Guard, Leave, Saved, Control, cssa, is_asked}
@@ -185,6 +184,6 @@ module _ (layout : Layout) (fit : ClustersFit layout) (runs : FlatRuns) where
       step_calm (program_turns layout tape moves) before m (λ lp. placed layout lp tape moves) (orderly moves) (trace_calm tape moves orderly (older_broken (turns_of_move layout before m) (program_turns layout tape moves) t) mp.1 fp.1 es.1) (t, mp.0, fp.0, not-true (resumes_early layout before m) es.0)
 
 -- the rules kept, each break forced, and each miss of a cluster that is out: no stop
-pub no_stop : (layout : Layout) (runs : FlatRuns) (tape : List Event) (moves : List Move) → IsValid layout → MissesFit layout (queue_at_build layout.build layout) tape → EachTurn (λ turn. λ older. BrokenBy layout runs turn older turn.event) (program_turns layout tape moves) → Honours layout tape moves → (trace layout tape moves).control.cause ≡ None
+pub no_stop : (layout : Layout) (runs : FlatRuns) (tape : List Event) (moves : List Move) → IsValid layout → MissesFit layout [] tape → EachTurn (λ turn. λ older. BrokenBy layout runs turn older turn.event) (program_turns layout tape moves) → Honours layout tape moves → (trace layout tape moves).control.cause ≡ None
 no_stop layout runs tape moves valid misses b h =
     (trace_calm layout (clusters_fit layout valid) runs tape moves (trace_is_orderly layout valid tape misses) b h.mapped h.fetched h.resumed).cause

@@ -8,7 +8,7 @@ use Rattle.ak_core.specs.declared.event.Event.TheVariants.{Call, Miss, Trap, Bre
 use Rattle.ak_model.specs.Paging.Histories.{History, Exits}
 use Rattle.ak_model.specs.Control.ControlState.{Phase, New, Running, Calling, Asked, Ended, Trapped, Dead, Context, Program, Enter, Probe, Finish, Guard, Leave, Reason, Interrupted, Cleared, Raised, Denied, Missed, Broke, Faulted, Saved, Control, is_asked}
 use Rattle.ak_model.specs.Control.OneTurn.{Turn, Goes, Leaves}
-use Rattle.ak_model.specs.Control.RuntimeTurn.{accesses, asked_pages, step_fault, guard_top, program_at_bottom, shown_fault, handle, enter, finish, resume_guard, leave_call, effect, unless_fault, runtime_turn}
+use Rattle.ak_model.specs.Control.RuntimeTurn.{accesses, asked_pages, first_fault, guard_top, program_at_bottom, shown_fault, handle, enter, finish, resume_guard, leave_call, effect, unless_fault, runtime_turn}
 use Rattle.ak_model.specs.Control.EventTurn.{due, without_first, leave_program, event_turn}
 use Rattle.ak_model.specs.Laws.ToldFault.{is_break}
 use Rattle.ak_model.specs.Kernels.KernelRules.{entered_after}
@@ -137,7 +137,7 @@ module _ (layout : Layout) (so_far : List ℕ) (entered : Bool) (control : Contr
   effect_calm (Leave b a) g = leave_calm b a
 
   -- a step that does not fault
-  pub runtime_calm : (past : History) → step_fault layout past (accesses layout control context) ≡ None → TurnCalm entered (runtime_turn layout past control context)
+  pub runtime_calm : (past : History) → first_fault layout past (accesses layout control context) ≡ None → TurnCalm entered (runtime_turn layout past control context)
   runtime_calm past e =
       subst (λ o. TurnCalm entered (unless_fault layout control context o)) (sym e)
       (effect_calm context (subst (GuardFree control.phase) is_now old.free))

@@ -10,7 +10,6 @@ use Rattle.ak_core.specs.Mem.{Access}
 use Rattle.ak_core.specs.declared.event.Event.{Event}
 use Rattle.ak_core.specs.declared.event.Event.TheVariants.{Call, Miss, Trap, Break}
 use Rattle.ak_model.specs.Paging.Pages.{cluster_at}
-use Rattle.ak_model.specs.Paging.Build.{queue_at_build}
 use Rattle.ak_model.specs.Clusters.Queue.{after_miss, is_in}
 use Rattle.ak_model.specs.Flat.FlatRuns.{FlatRun, is_forbidden}
 use Rattle.ak_model.specs.Control.EventTurn.{count_of}
@@ -109,7 +108,7 @@ module _ (layout : Layout) (valid : IsValid layout) (runs : FlatRuns) where
   )
 
   -- the events of turns that miss as they are forced to, before others
-  misses_access : (turns : List ProgramTurn) (rest : List Event) → EachTurn (λ turn. λ older. HoldsAt layout (λ e. Unit {0}) turn.count turn.event) turns → EachTurn (λ turn. λ older. MissedBy layout runs turn older turn.event) turns → MissesAccess layout runs (queue_by layout turns) rest → MissesAccess layout runs (queue_at_build layout.build layout) (taken turns rest)
+  misses_access : (turns : List ProgramTurn) (rest : List Event) → EachTurn (λ turn. λ older. HoldsAt layout (λ e. Unit {0}) turn.count turn.event) turns → EachTurn (λ turn. λ older. MissedBy layout runs turn older turn.event) turns → MissesAccess layout runs (queue_by layout turns) rest → MissesAccess layout runs [] (taken turns rest)
   misses_access [] rest at h k = k
   misses_access (turn ∷ older) rest at h k =
       misses_access older (with_event turn.event rest) at.1 h.1 (one_accesses turn older turn.event rest refl at.0 h.0 k)
@@ -198,17 +197,17 @@ module _ (image : List ℕ) (layout : Layout) (journal : Journal) (sound : Sound
   abbrev runs : FlatRuns
   runs = runs_of layout image journal
 
-  sound_misses : MissesAccess layout runs (queue_at_build layout.build layout) journal.events
+  sound_misses : MissesAccess layout runs [] journal.events
   sound_misses =
       let moves = reverse journal.moves in
       let turns = turns_of layout journal in
-      subst (MissesAccess layout runs (queue_at_build layout.build layout))
+      subst (MissesAccess layout runs [])
       (ap (taken turns) (sym sound.answers.taken) ∙ trace-taken layout journal.events moves)
       (misses_access layout sound.valid runs turns [] (events-each layout (λ e. Unit {0}) journal.events moves (each_unit journal.events)) sound.misses.turns_miss tt)
 
   -- the misses of an instruction are a row
   pub sound_row : (i : ℕ) → HasRow layout runs i (misses_at journal.events i)
-  sound_row i = row_at layout runs i (queue_at_build layout.build layout) journal.events sound.events.tape sound_misses
+  sound_row i = row_at layout runs i [] journal.events sound.events.tape sound_misses
 
   -- of different clusters
   pub sound_distinct : (i : ℕ) → IsDistinct (misses_at journal.events i)

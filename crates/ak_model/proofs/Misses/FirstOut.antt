@@ -9,7 +9,6 @@ use Rattle.ak_core.specs.declared.event.Event.{Event}
 use Rattle.ak_core.specs.declared.event.Event.TheVariants.{Call, Miss, Trap, Break}
 use Rattle.ak_core.specs.declared.moves.Move.{Move}
 use Rattle.ak_model.specs.Paging.Pages.{pages, cluster_at}
-use Rattle.ak_model.specs.Paging.Build.{queue_at_build}
 use Rattle.ak_model.specs.Paging.Histories.{History}
 use Rattle.ak_model.specs.Paging.Inside.{since}
 use Rattle.ak_model.specs.Clusters.Queue.{is_in}
@@ -162,7 +161,7 @@ each_first layout runs (turn ∷ older) k r m = (
   each_first layout runs older k.1 r.1 m.1,
 )
 
-pub turns-first : (layout : Layout) (runs : FlatRuns) (tape : List Event) (moves : List Move) → IsValid layout → MissesFit layout (queue_at_build layout.build layout) tape → Evicts layout tape moves → EachTurn (λ turn. λ older. ReachedBy layout runs turn turn.event) (program_turns layout tape moves) → EachTurn (λ turn. λ older. MissedBy layout runs turn older turn.event) (program_turns layout tape moves) → EachTurn (TurnFirst layout runs) (program_turns layout tape moves)
+pub turns-first : (layout : Layout) (runs : FlatRuns) (tape : List Event) (moves : List Move) → IsValid layout → MissesFit layout [] tape → Evicts layout tape moves → EachTurn (λ turn. λ older. ReachedBy layout runs turn turn.event) (program_turns layout tape moves) → EachTurn (λ turn. λ older. MissedBy layout runs turn older turn.event) (program_turns layout tape moves) → EachTurn (TurnFirst layout runs) (program_turns layout tape moves)
 turns-first layout runs tape moves valid misses out r m =
     each_first layout runs (program_turns layout tape moves)
     (turns-each layout tape (keeps_out layout) valid misses (Placed layout)

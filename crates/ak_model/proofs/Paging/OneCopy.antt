@@ -1,5 +1,5 @@
 -- In every trace, a page is in a frame exactly where its place says so, and no older handle of it can be loaded.
-use Rattle.std.proofs.Common.{◌≡◌, ℕ, ◌+◌, ◌-◌, ◌<◌, List, [], ◌∷◌, arith, refl, ap, sym, ◌∙◌, subst}
+use Rattle.std.proofs.Common.{◌≡◌, ℕ, ◌+◌, ◌<◌, List, [], ◌∷◌, arith, refl, ap, sym, ◌∙◌, subst}
 use Rattle.std.specs.Prelude.{Bool, true, false, not, ◌&&◌, if◌then◌else◌, Option, Some, None, is_some, nat_lt, ◌==◌}
 use Rattle.std.specs.Bool.{then_some}
 use Rattle.std.proofs.lemmas.Bool.{eqb-true, ltb-true, and_parts, not-true, not-false}
@@ -11,12 +11,10 @@ use Rattle.ak_core.specs.declared.moves.Move.{Move}
 use Rattle.ak_core.specs.declared.moves.Move.TheVariants.{ReadPte, Ewb, Eldu, Eldb, Epa, Discard, Run}
 use Rattle.ak_core.specs.declared.moves.Answer.{Answer}
 use Rattle.ak_core.specs.declared.moves.Answer.TheVariants.{Ok, OkHandle, InUse, NotBlocked, NotTracked, BadVa, SlotOccupied, MacFail, NoHandle}
-use Rattle.ak_core.specs.declared.build.Build.{Build}
-use Rattle.ak_core.specs.declared.build.Build.TheVariants.{Resident, Sealed as SealedBuild}
-use Rattle.ak_model.specs.Paging.Build.{later_frame, program_place, slot_at_build, given_at_build, page_of_at_build}
-use Rattle.ak_model.specs.Paging.Pages.{all_pages, pages}
+use Rattle.ak_model.specs.Paging.Build.{slot_at_build}
+use Rattle.ak_model.specs.Paging.Pages.{pages}
 use Rattle.ak_model.specs.Paging.Histories.{History, Change, WritesOut, Loads, Removes, MakesVa, Discards, Exits, change}
-use Rattle.ak_model.specs.Paging.Holdings.{is_page_in, InFrame, Held, FreeFrame, SecsFrame, VaFrame, PageFrame, is_free, InHandle, Gone}
+use Rattle.ak_model.specs.Paging.Holdings.{is_page_in, Held, FreeFrame, SecsFrame, VaFrame, PageFrame, is_free, InHandle, Gone}
 use Rattle.ak_model.specs.Paging.Frames.{held, held_after, blocked_at}
 use Rattle.ak_model.specs.Paging.Handles.{given, given_after, page_of, page_of_after, page_after, discarded, discarded_after, live, slot, slot_after, place, place_after}
 use Rattle.ak_model.specs.Paging.Tracking.{tracked}
@@ -38,7 +36,7 @@ some_then true i k h = (refl, cc)
 some_then false i k h = absurd (cc)
 
 module _ (layout : Layout) where
-  built_slot : (va i k : ℕ) → slot_at_build SealedBuild layout va i ≡ Some k → (va ≡ 1) × (i ≡ k) × (k < pages layout)
+  built_slot : (va i k : ℕ) → slot_at_build layout va i ≡ Some k → (va ≡ 1) × (i ≡ k) × (k < pages layout)
   built_slot va i k h =
       let a = some_then ((va == 1) && nat_lt i (pages layout)) i k h in
       let b = and_parts (va == 1) (nat_lt i (pages layout)) a.0 in
@@ -46,8 +44,8 @@ module _ (layout : Layout) where
       let below : k < pages layout = subst (λ x. x < pages layout) a.1 l in
       (e, a.1, below)
 
-  built_by : (build : Build) → Agrees (λ f. if f == 0 then SecsFrame else (if f == 1 then VaFrame else (if nat_lt f 8 then PageFrame (pages layout + (f - 2)) else later_frame build layout f))) (λ p. if nat_lt p (pages layout) then program_place build p else (if nat_lt p (all_pages layout) then InFrame (p - pages layout + 2) else Gone)) (slot_at_build build layout) (given_at_build build layout) page_of_at_build (λ k. false)
-  built_by SealedBuild = record {
+  built_one : OneCopy layout []
+  built_one = record {
     framed = λ p f h. grind (arith, nat_tests);
     placed = λ p f h. grind (arith, nat_tests);
     named = λ p k h. grind (arith, nat_tests);
@@ -59,21 +57,6 @@ module _ (layout : Layout) where
     same_slot = λ va i wa j k h h'. (built_slot va i k h).1 ∙ sym (built_slot wa j k h').1;
     gone = λ k h. absurd (cc);
   }
-  built_by Resident = record {
-    framed = λ p f h. grind (arith, nat_tests);
-    placed = λ p f h. grind (arith, nat_tests);
-    named = λ p k h. absurd (grind (arith, nat_tests));
-    known = λ p k h. absurd (grind (arith, nat_tests));
-    kept = λ p k h. refl;
-    slotted = λ va i k h. absurd (cc);
-    newest = λ va i k h d. absurd (cc);
-    same_va = λ va i wa j k h h'. absurd (cc);
-    same_slot = λ va i wa j k h h'. absurd (cc);
-    gone = λ k h. absurd (cc);
-  }
-
-  built_one : OneCopy layout []
-  built_one = built_by layout.build
 
   -- ---- What an answer says of the change
 

@@ -8,7 +8,8 @@ use Rattle.ak_core.specs.declared.moves.Answer.{Answer}
 use Rattle.ak_core.specs.declared.moves.Answer.TheVariants.{Ok, NoLp, Inside, TcsFault, Busy}
 use Rattle.ak_model.specs.Paging.Histories.{History, Enters, Resumes}
 use Rattle.ak_model.specs.Paging.Inside.{since, since_after, inside, processors, someone_inside, another_inside}
-use Rattle.ak_model.specs.Control.Answers.{finds_tcs, if_outside}
+use Rattle.ak_model.specs.Paging.Walk.{tcs_walkable}
+use Rattle.ak_model.specs.Control.Answers.{if_outside}
 use Rattle.ak_model.proofs.Paging.Tests.{any_in_range}
 use Rattle.ak_model.proofs.Paging.Readings.{reading, someone_then}
 
@@ -53,6 +54,6 @@ module _ (layout : Layout) where
   outside_ok past lp a h =
       let w = other (not (nat_lt lp layout.lps)) NoLp _ Ok (λ e. cc) h in
       let x = other (inside past lp) Inside _ Ok (λ e. cc) w.1 in
-      let y = other (not (finds_tcs layout past)) TcsFault _ Ok (λ e. cc) x.1 in
+      let y = other (not (tcs_walkable layout past)) TcsFault _ Ok (λ e. cc) x.1 in
       let z = other (another_inside layout past lp) Busy _ Ok (λ e. cc) y.1 in
       (ltb-true lp layout.lps (not-false (nat_lt lp layout.lps) w.0), none_of past lp (processors layout) x.0 z.0, z.1)

@@ -19,7 +19,7 @@ use Rattle.ak_model.proofs.Rows.Samples.{image_a, image_d, image_j, eenter}
 
 -- a control state of image D in this phase, with these contexts saved
 abbrev control : Phase → List Saved → Control
-control phase stack = record (control_at_build image_d []) { phase = phase; stack = stack }
+control phase stack = record (control_at_build []) { phase = phase; stack = stack }
 
 -- the guard, saved
 abbrev one : List Saved
@@ -76,14 +76,14 @@ no_such_cluster h = let no : 1 < 1 = h.0 in absurd (omega arith)
 
 -- ---- Processors
 
-no_two : IsPresent image_a (record { past = (eenter 1 0, Ok) ∷ (eenter 0 0, Ok) ∷ []; control = record (control_at_build image_a []) { now = Some Program } }) → ⊥
+no_two : IsPresent image_a (record { past = (eenter 1 0, Ok) ∷ (eenter 0 0, Ok) ∷ []; control = record (control_at_build []) { now = Some Program } }) → ⊥
 no_two h = let no : zero ≡ suc zero = h.alone 0 1 refl refl in cc
 
 -- somebody is inside, and nothing goes on; or the other way round
-no_context : IsPresent image_a (record { past = (eenter 0 0, Ok) ∷ []; control = control_at_build image_a [] }) → ⊥
+no_context : IsPresent image_a (record { past = (eenter 0 0, Ok) ∷ []; control = control_at_build [] }) → ⊥
 no_context h = let no : false ≡ true = h.context 0 refl in cc
 
-nobody : IsPresent image_a (record { past = []; control = record (control_at_build image_a []) { now = Some Program } }) → ⊥
+nobody : IsPresent image_a (record { past = []; control = record (control_at_build []) { now = Some Program } }) → ⊥
 nobody h = let no : false ≡ true = h.someone refl in cc
 
 -- ---- Registers

@@ -1,5 +1,5 @@
 -- The program turns of worked rows, and what is forced in them.
-use Rattle.std.specs.Prelude.{◌≡◌, ℕ, zero, suc, true, false, slice_get, List, [], ◌∷◌, map, Some, None, refl}
+use Rattle.std.specs.Prelude.{◌≡◌, ℕ, zero, suc, true, false, slice_get, List, [], ◌∷◌, ◌++◌, map, reverse, Some, None, refl}
 use Rattle.ak_core.specs.Journal.{Journal}
 use Rattle.ak_core.specs.Mem.{Access, access_to}
 use Rattle.ak_core.specs.declared.event.Event.{Event}
@@ -17,7 +17,7 @@ use Rattle.ak_model.specs.Sound.Forced.{queue_by, turns_of, AccessesAreReached, 
 use Rattle.ak_model.proofs.Rows.Samples.{image_a, setpte, none, pxad, eldu, eenter, eresume, run, interrupt, ex, pf}
 use Rattle.ak_model.proofs.Rows.Worked.{Row, moves_of, answers_of}
 use Rattle.ak_model.proofs.Rows.WorkedFlat.{code_a, bytes_a, filled}
-use Rattle.ak_model.proofs.Rows.ResidentBuild.{one_page}
+use Rattle.ak_model.proofs.Rows.KernelsAndEdges.{served}
 
 -- the journal of a row, with these outputs and events
 abbrev journal_of : Row → List ℕ → List Event → Journal
@@ -28,17 +28,21 @@ journal_of row outputs events =
 abbrev turn_of : History → ℕ → ProgramTurn
 turn_of past count = record { lp = 0; past = past; count = count; event = None }
 
--- ---- The kernel maps the page away before the program enters
+-- the program's page is in and mapped before it is asked for
+abbrev mapped : Row
+mapped = (eldu 8 0 0 1 0, Ok) ∷ (setpte 0 8 pxad, Ok) ∷ []
+
+-- ---- A miss is served, and the page is taken away before the program goes on
 
 unfoldable broken : Journal
-broken = journal_of ((setpte 0 8 none, Ok) ∷ (eenter 0 0, Ok) ∷ (run 0 10, pf) ∷ (eenter 0 0, Ok) ∷ (run 0 10, ex Exit.Stopped) ∷ []) [] (Break 0 ∷ [])
+broken = journal_of (served ++ (setpte 0 8 none, Ok) ∷ (interrupt 0, Ok) ∷ (eresume 0, Ok) ∷ (run 0 10, pf) ∷ (eenter 0 0, Ok) ∷ (run 0 10, ex Exit.Stopped) ∷ []) [] (Miss 0 0 ∷ Break 0 ∷ [])
 
-one_break : turns_of one_page broken ≡ record (turn_of ((eenter 0 0, Ok) ∷ (setpte 0 8 none, Ok) ∷ []) 0) { event = Some (Break 0) } ∷ []
-unfolding one_page broken
+one_break : map (λ turn. turn.event) (turns_of image_a broken) ≡ Some (Break 0) ∷ Some (Miss 0 0) ∷ []
+unfolding broken
 one_break = refl
 
-break_forced : BreaksAreForced bytes_a one_page broken
-unfolding one_page broken bytes_a code_a filled
+break_forced : BreaksAreForced bytes_a image_a broken
+unfolding broken bytes_a code_a filled
 break_forced = record {
   turns_break = (
     record {
@@ -46,33 +50,37 @@ break_forced = record {
       faults = record { place = 0; stands = refl; permitted = refl; unmapped = refl; earlier = refl };
       inside = refl;
     },
-    tt,
+    (tt, tt),
   );
 }
 
-break_reached : AccessesAreReached bytes_a one_page broken
-unfolding one_page broken bytes_a code_a filled
-break_reached = record { turns_reach = (tt, tt) }
+break_reached : AccessesAreReached bytes_a image_a broken
+unfolding broken bytes_a code_a filled
+break_reached = record { turns_reach = (tt, (tt, tt)) }
 
 -- ---- Two calls, with no turn but those that complete
 
 unfoldable called : Journal
-called = journal_of ((eenter 0 0, Ok) ∷ (run 0 1000, ex (Exit.Call 1 7)) ∷ (eenter 0 0, Ok) ∷ (run 0 1000, ex (Exit.Ended 0)) ∷ []) (7 ∷ []) (Call 3 1 7 ∷ Call 7 0 0 ∷ [])
+called = journal_of (mapped ++ (eenter 0 0, Ok) ∷ (run 0 1000, ex (Exit.Call 1 7)) ∷ (eenter 0 0, Ok) ∷ (run 0 1000, ex (Exit.Ended 0)) ∷ []) (7 ∷ []) (Call 3 1 7 ∷ Call 7 0 0 ∷ [])
 
-eight_turns : map (λ turn. turn.count) (turns_of one_page called) ≡ 7 ∷ 6 ∷ 5 ∷ 4 ∷ 3 ∷ 2 ∷ 1 ∷ 0 ∷ []
-unfolding one_page called
+called_answers : AnswersAreTraced image_a called
+unfolding called
+called_answers = record { answered = refl; taken = refl }
+
+eight_turns : map (λ turn. turn.count) (turns_of image_a called) ≡ 7 ∷ 6 ∷ 5 ∷ 4 ∷ 3 ∷ 2 ∷ 1 ∷ 0 ∷ []
+unfolding called
 eight_turns = refl
 
-two_calls : map (λ turn. turn.event) (turns_of one_page called) ≡ Some (Call 7 0 0) ∷ None ∷ None ∷ None ∷ Some (Call 3 1 7) ∷ None ∷ None ∷ None ∷ []
-unfolding one_page called
+two_calls : map (λ turn. turn.event) (turns_of image_a called) ≡ Some (Call 7 0 0) ∷ None ∷ None ∷ None ∷ Some (Call 3 1 7) ∷ None ∷ None ∷ None ∷ []
+unfolding called
 two_calls = refl
 
-calls_reached : AccessesAreReached bytes_a one_page called
-unfolding one_page called bytes_a code_a filled
+calls_reached : AccessesAreReached bytes_a image_a called
+unfolding called bytes_a code_a filled
 calls_reached = record { turns_reach = (refl, (refl, (refl, (refl, (refl, (refl, (refl, (refl, tt)))))))) }
 
-calls_forced : BreaksAreForced bytes_a one_page called
-unfolding one_page called
+calls_forced : BreaksAreForced bytes_a image_a called
+unfolding called
 calls_forced = record { turns_break = (tt, (tt, (tt, (tt, (tt, (tt, (tt, (tt, tt)))))))) }
 
 -- ---- A miss is served, and later the page is taken away
@@ -120,55 +128,45 @@ out = refl
 
 -- ---- What is not so
 
--- a break where the kernel did nothing is not forced
+-- a break where the kernel did nothing after it served the miss is not forced
 unfoldable idle : Journal
-idle = journal_of ((eenter 0 0, Ok) ∷ (run 0 10, pf) ∷ []) [] (Break 0 ∷ [])
+idle = journal_of (served ++ (run 0 10, pf) ∷ []) [] (Miss 0 0 ∷ Break 0 ∷ [])
 
-idle_walks : (place : ℕ) (t : Access) → slice_get (access_to 0 Exec ∷ []) place ≡ Some t → access_walkable one_page ((eenter 0 0, Ok) ∷ []) t ≡ false → ⊥
-unfolding one_page
+idle_walks : (place : ℕ) (t : Access) → slice_get (access_to 0 Exec ∷ []) place ≡ Some t → access_walkable image_a (reverse served) t ≡ false → ⊥
 idle_walks zero t stands unmapped =
     let same : Some (access_to 0 Exec) ≡ Some t = stands in
-    let walks : access_walkable one_page ((eenter 0 0, Ok) ∷ []) (access_to 0 Exec) ≡ true = refl in
+    let walks : access_walkable image_a (reverse served) (access_to 0 Exec) ≡ true = refl in
     cc
 idle_walks (suc place) t stands unmapped = cc
 
-idle_not_forced : BreaksAreForced bytes_a one_page idle → ⊥
-unfolding one_page idle bytes_a code_a filled
+idle_not_forced : BreaksAreForced bytes_a image_a idle → ⊥
+unfolding idle bytes_a code_a filled
 idle_not_forced h =
     let break = h.turns_break.0 in
     idle_walks break.faults.place break.access break.faults.stands break.faults.unmapped
 
 -- nothing completes on a page that was mapped away before the entering
 unfoldable unreached : Journal
-unreached = journal_of ((setpte 0 8 none, Ok) ∷ (eenter 0 0, Ok) ∷ (run 0 2, ex Exit.Still) ∷ []) [] []
+unreached = journal_of (mapped ++ (setpte 0 8 none, Ok) ∷ (eenter 0 0, Ok) ∷ (run 0 2, ex Exit.Still) ∷ []) [] []
 
-unreached_not : AccessesAreReached bytes_a one_page unreached → ⊥
-unfolding one_page unreached bytes_a code_a filled
+unreached_not : AccessesAreReached bytes_a image_a unreached → ⊥
+unfolding unreached bytes_a code_a filled
 unreached_not h = let no : false ≡ true = h.turns_reach.0 in cc
 
 -- ---- When an access was reached
 
 -- mapped away before the entering, it was not
-away_before : reached one_page (turn_of ((eenter 0 0, Ok) ∷ (setpte 0 8 none, Ok) ∷ []) 0) (access_to 0 Exec) ≡ false
-unfolding one_page
+away_before : reached image_a (turn_of ((eenter 0 0, Ok) ∷ (setpte 0 8 none, Ok) ∷ reverse mapped) 0) (access_to 0 Exec) ≡ false
 away_before = refl
 
 -- mapped away after the entering, it was
-away_after : reached one_page (turn_of ((setpte 0 8 none, Ok) ∷ (eenter 0 0, Ok) ∷ []) 0) (access_to 0 Exec) ≡ true
-unfolding one_page
+away_after : reached image_a (turn_of ((setpte 0 8 none, Ok) ∷ (eenter 0 0, Ok) ∷ reverse mapped) 0) (access_to 0 Exec) ≡ true
 away_after = refl
 
 -- mapped for a moment between, it was
-between : reached one_page (turn_of ((setpte 0 8 none, Ok) ∷ (setpte 0 8 pxad, Ok) ∷ (eenter 0 0, Ok) ∷ (setpte 0 8 none, Ok) ∷ []) 0) (access_to 0 Exec) ≡ true
-unfolding one_page
+between : reached image_a (turn_of ((setpte 0 8 none, Ok) ∷ (setpte 0 8 pxad, Ok) ∷ (eenter 0 0, Ok) ∷ (setpte 0 8 none, Ok) ∷ reverse mapped) 0) (access_to 0 Exec) ≡ true
 between = refl
 
 -- outside, none was
-outside : reached one_page (turn_of [] 0) (access_to 0 Exec) ≡ false
-unfolding one_page
+outside : reached image_a (turn_of [] 0) (access_to 0 Exec) ≡ false
 outside = refl
-
--- the build's clusters are in
-all_in : queue_by one_page [] ≡ 0 ∷ []
-unfolding one_page
-all_in = refl

@@ -1,7 +1,6 @@
 -- Layouts and moves of the worked rows, written short.
 use Rattle.std.specs.Prelude.{ℕ, true, false, List, [], ◌∷◌, replicate}
 use Rattle.ak_core.specs.Layout.{Layout}
-use Rattle.ak_core.specs.declared.build.Build.TheVariants.{Resident, Sealed}
 use Rattle.ak_core.specs.declared.page.Flags.{Flags}
 use Rattle.ak_core.specs.declared.page.Perm.{Perm}
 use Rattle.ak_core.specs.declared.page.Perm.TheVariants.{R, Rw, Rx}
@@ -17,11 +16,7 @@ use Rattle.ak_core.specs.declared.page.Lp.{Lp}
 
 abbrev pub layout_of : List Perm → List ℕ → ℕ → ℕ → ℕ → ℕ → Layout
 layout_of perms cluster_of clusters budget frames lps =
-    record { base = 268435456; entry = 0; perms = perms; cluster_of = cluster_of; clusters = clusters; budget = budget; frames = frames; lps = lps; build = Sealed }
-
--- the same enclave with its pages in frames
-abbrev pub in_frames : Layout → Layout
-in_frames layout = record layout { build = Resident }
+    record { base = 268435456; entry = 0; perms = perms; cluster_of = cluster_of; clusters = clusters; budget = budget; frames = frames; lps = lps }
 
 abbrev pub image_a : Layout
 image_a = layout_of (Rx ∷ []) (0 ∷ []) 1 1 9 1

@@ -1,4 +1,4 @@
--- Journals that are not sound, each by one part of soundness alone, over a sealed build.
+-- Journals that are not sound, each by one part of soundness alone.
 use Rattle.std.proofs.Common.{◌≡◌, ℕ, zero, suc, List, [], ◌∷◌, ◌++◌, arith, refl, ap, sym, ◌∙◌}
 use Rattle.std.specs.Prelude.{true, false, take, slice_get, Option, Some, None, is_some, length}
 use Rattle.ak_core.specs.Journal.{Journal}

@@ -8,7 +8,6 @@ use Rattle.ak_core.specs.declared.event.Event.{Event}
 use Rattle.ak_core.specs.declared.moves.Exit.{Exit}
 use Rattle.ak_core.specs.declared.moves.Move.{Move}
 use Rattle.ak_model.specs.Paging.Pages.{pages_of}
-use Rattle.ak_model.specs.Paging.Build.{queue_at_build}
 use Rattle.ak_model.specs.Paging.Histories.{History}
 use Rattle.ak_model.specs.Paging.Inside.{someone_inside}
 use Rattle.ak_model.specs.Control.ControlState.{Asked, Context, Program, Enter, Probe, Finish, Guard, Leave, Reason, Interrupted, Cleared, Raised, Denied, Missed, Broke, Faulted, Saved, Control, cssa, is_asked}
@@ -136,7 +135,7 @@ module _ (layout : Layout) where
 
 -- ---- Whole traces
 
-module _ (layout : Layout) (valid : IsValid layout) (tape : List Event) (misses : MissesFit layout (queue_at_build layout.build layout) tape) where
+module _ (layout : Layout) (valid : IsValid layout) (tape : List Event) (misses : MissesFit layout [] tape) where
   -- at a moment: the cluster is asked for, an entering stands after the ask, and the probes are not over
   pub record IsOpen (c : ℕ) (moment : Moment) : Type 0 where
     pub asked : moment.control.phase ≡ Asked c

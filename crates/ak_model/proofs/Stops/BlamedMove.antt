@@ -17,7 +17,6 @@ use Rattle.ak_core.specs.declared.event.StopCause.{StopCause}
 use Rattle.ak_core.specs.declared.event.StopCause.TheVariants.{Unmapped, RuntimeUnmapped, FetchNotHonoured, ResumedEarly, Stuck}
 use Rattle.ak_core.specs.declared.moves.Move.{Move}
 use Rattle.ak_model.specs.Paging.Pages.{pages, permits, cluster_at, pages_of, strong_kind}
-use Rattle.ak_model.specs.Paging.Build.{queue_at_build}
 use Rattle.ak_model.specs.Paging.Inside.{someone_inside}
 use Rattle.ak_model.specs.Paging.Walk.{walkable, access_walkable, tcs_walkable}
 use Rattle.ak_model.specs.Clusters.Queue.{is_in}
@@ -126,7 +125,7 @@ broke_queue layout turn older h =
 
 -- ---- The moves to blame
 
-module _ (layout : Layout) (valid : IsValid layout) (tape : List Event) (misses : MissesFit layout (queue_at_build layout.build layout) tape) (stopping : List Move) where
+module _ (layout : Layout) (valid : IsValid layout) (tape : List Event) (misses : MissesFit layout [] tape) (stopping : List Move) where
   abbrev here : Moment
   here = trace layout tape stopping
 
@@ -215,7 +214,7 @@ module _ (layout : Layout) (valid : IsValid layout) (tape : List Event) (misses 
       let at = early_move layout tape stopping h in
       record { told = tt; newer = at.newer; move = at.move; older = at.older; stands = at.stands; place = at.place_is; broke = at.holds }
 
-  -- the program's page was mapped when its cluster came in, or at the build
+  -- the program's page was mapped when its cluster came in
   program_blamed : (p : Page) (kind : Kind) → access_walkable layout fault.past (record { page = p; kind = kind }) ≡ false → someone_inside layout fault.past ≡ true → p.0 < pages layout → permits layout p.0 kind ≡ true → is_in fault.control.queue (cluster_at layout p.0) ≡ true → IsTold (told_at layout tape stopping) (Unmapped p kind) → Blamed (Unmapped p kind)
   program_blamed p kind lost someone low allowed inside told =
       let t : Access = record { page = p; kind = kind } in
@@ -416,7 +415,7 @@ module _ (layout : Layout) where
   fewer_turns P tape (m ∷ newer) moves h =
       fewer_turns P tape newer moves (older_turns P (turns_of_move layout (trace layout tape (newer ++ moves)) m) (program_turns layout tape (newer ++ moves)) h)
 
-  module _ (image : List ℕ) (journal : Journal) (stop : Stop) (valid : IsValid layout) (misses : MissesFit layout (queue_at_build layout.build layout) journal.events) (breaks : BreaksAreForcedUnkept image layout journal) (stopped : IsStopped layout journal) (is_stop : journal.stop ≡ Some stop) where
+  module _ (image : List ℕ) (journal : Journal) (stop : Stop) (valid : IsValid layout) (misses : MissesFit layout [] journal.events) (breaks : BreaksAreForcedUnkept image layout journal) (stopped : IsStopped layout journal) (is_stop : journal.stop ≡ Some stop) where
     abbrev tape : List Event
     tape = journal.events
 

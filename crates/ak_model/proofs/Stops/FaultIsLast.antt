@@ -6,7 +6,6 @@ use Rattle.ak_core.specs.declared.event.Event.{Event}
 use Rattle.ak_core.specs.declared.moves.Exit.{Exit}
 use Rattle.ak_core.specs.declared.moves.Exit.TheVariants.{Still, Pf}
 use Rattle.ak_core.specs.declared.moves.Move.{Move}
-use Rattle.ak_model.specs.Paging.Build.{queue_at_build}
 use Rattle.ak_model.specs.Paging.Histories.{History, Exits, if_left}
 use Rattle.ak_model.specs.Paging.Inside.{someone_inside}
 use Rattle.ak_model.specs.Control.ControlState.{Context, Reason, Saved, Control}
@@ -75,7 +74,7 @@ module _ (layout : Layout) (so_far : List ℕ) (past : History) (control : Contr
         subst (λ b. Told (if b then newest_refusal next.stack else told) next) (sym (left_faults lp exit)) (λ live grave. outcome exit next h live grave (h.left.refusal live));
   }
 
-module _ (layout : Layout) (valid : IsValid layout) (tape : List Event) (misses : MissesFit layout (queue_at_build layout.build layout) tape) where
+module _ (layout : Layout) (valid : IsValid layout) (tape : List Event) (misses : MissesFit layout [] tape) where
   trace_told : (moves : List Move) → Told (told_at layout tape moves) (trace layout tape moves).control
   trace_told [] = λ live grave. absurd (grave tt)
   trace_told (m ∷ moves) =

@@ -1,27 +1,20 @@
--- Each page of a cluster that is in was mapped at some earlier moment: at its probe, or at the build.
+-- Each page of a cluster that is in was mapped at some earlier moment: at its probe.
 use Rattle.std.proofs.Common.{◌≡◌, ◌⊎◌, inl, inr, ℕ, zero, suc, ◌<◌, List, [], ◌∷◌, ◌++◌, length, drop, arith, refl, ap, sym, ◌∙◌, subst}
 use Rattle.std.specs.Prelude.{Bool, true, false, not, slice_index, if◌then◌else◌, Option, Some, None, nat_lt, ◌==◌}
-use Rattle.std.proofs.lemmas.Bool.{or_right, eqb-true, eqb-false, lt-ltb, or_cases}
-use Rattle.std.proofs.lemmas.List.{drop_all}
-use Rattle.std.proofs.lemmas.Option.{slice_get-get_or}
+use Rattle.std.proofs.lemmas.Bool.{or_right, eqb-true, eqb-false, or_cases}
 use Rattle.ak_core.specs.Layout.{Layout, IsValid}
 use Rattle.ak_core.specs.Mem.{Access}
-use Rattle.ak_core.specs.declared.build.Build.{Build}
-use Rattle.ak_core.specs.declared.build.Build.TheVariants.{Resident, Sealed as SealedBuild}
-use Rattle.ak_core.specs.declared.page.Perm.{Perm}
-use Rattle.ak_core.specs.declared.page.Perm.TheVariants.{R, Rw, Rx}
 use Rattle.ak_core.specs.declared.event.Event.{Event}
 use Rattle.ak_core.specs.declared.event.Event.TheVariants.{Call, Miss, Trap, Break}
 use Rattle.ak_core.specs.declared.moves.Exit.{Exit}
 use Rattle.ak_core.specs.declared.moves.Move.{Move}
-use Rattle.ak_model.specs.Paging.Pages.{pages, permits, allows, strong, strong_kind, cluster_at, pages_of}
+use Rattle.ak_model.specs.Paging.Pages.{pages, cluster_at, pages_of}
 use Rattle.ak_model.specs.Paging.Histories.{History, Pair}
 use Rattle.ak_model.specs.Paging.Walk.{access_walkable}
-use Rattle.ak_model.specs.Paging.Build.{queue_at_build, steps_walk}
 use Rattle.ak_model.specs.Clusters.Queue.{drops, is_in}
 use Rattle.ak_model.specs.Control.ControlState.{Phase, New, Running, Calling, Asked, Ended, Trapped, Dead, Context, Program, Enter, Probe, Finish, Guard, Leave, Reason, Interrupted, Cleared, Raised, Denied, Missed, Broke, Faulted, Saved, Control, is_asked}
 use Rattle.ak_model.specs.Control.OneTurn.{Turn, Goes, Leaves}
-use Rattle.ak_model.specs.Control.RuntimeTurn.{asked_pages, accesses, first_fault, step_fault, guard_top, program_at_bottom, shown_fault, handle, enter, finish, resume_guard, leave_call, effect, unless_fault}
+use Rattle.ak_model.specs.Control.RuntimeTurn.{asked_pages, accesses, first_fault, guard_top, program_at_bottom, shown_fault, handle, enter, finish, resume_guard, leave_call, effect, unless_fault}
 use Rattle.ak_model.specs.Control.EventTurn.{due, leave_program, event_turn}
 use Rattle.ak_model.specs.Control.Runs.{turn_of, turn, go_on, run}
 use Rattle.ak_model.specs.Paging.Inside.{inside, someone_inside}
@@ -37,10 +30,9 @@ use Rattle.ak_model.proofs.Paging.Tests.{either_way}
 use Rattle.ak_model.proofs.Paging.InsideIsOfLayout.{placed}
 use Rattle.ak_model.proofs.Control.MovedTo.{each_move}
 use Rattle.ak_model.proofs.Clusters.DistinctQueues.{out-drop}
-use Rattle.ak_model.proofs.Paging.LostBySomeMove.{resident_walks}
 use Rattle.ak_model.proofs.Control.OrderlySteps.{ClustersFit}
 use Rattle.ak_model.proofs.Control.OrderlyTurns.{turn_fits}
-use Rattle.ak_model.proofs.Clusters.ClusterPages.{page_stands, asked_low}
+use Rattle.ak_model.proofs.Clusters.ClusterPages.{page_stands}
 use Rattle.ak_model.proofs.Clusters.ValidClusters.{clusters_fit}
 use Rattle.ak_model.proofs.Control.OrderlyMoments.{trace_is_orderly}
 
@@ -64,24 +56,6 @@ module _ (layout : Layout) where
   -- the page was mapped at some moment
   abbrev pub WasMapped : History → ℕ → Type 0
   WasMapped past p = (d : ℕ) × (is_mapped layout (drop d past) p ≡ true)
-
-  -- a program page permits the access for all that it allows
-  strong_allowed : (perm : Perm) → allows perm (strong perm) ≡ true
-  strong_allowed R = refl
-  strong_allowed Rw = refl
-  strong_allowed Rx = refl
-
-  strong_permitted : (p : ℕ) → p < pages layout → permits layout p (strong_kind layout p) ≡ true
-  strong_permitted p low =
-      let l : nat_lt p (pages layout) ≡ true = lt-ltb p (pages layout) low in
-      let some = slice_get-get_or layout.perms p R low in
-      rw (l, some) (strong_allowed _)
-
-  -- at the build, where it left the page in a frame
-  resident_mapped : (past : History) (p : ℕ) → layout.build ≡ Resident → p < pages layout → WasMapped past p
-  resident_mapped past p e low =
-      let none : drop (length past) past ≡ [] = drop_all (length past) past (omega arith) in
-      (length past, subst (λ before. is_mapped layout before p ≡ true) (sym none) (resident_walks layout e p low (strong_kind layout p) (strong_permitted p low)))
 
   -- ---- What was found so far
 
@@ -259,12 +233,8 @@ module _ (layout : Layout) where
     all_walk [] h = tt
     all_walk (t ∷ all) h = walk_by (access_walkable layout past t) t (first_fault layout past all) (AllWalk all) refl (all_walk all) h
 
-    found_by : (build : Build) → layout.build ≡ build → (i : ℕ) → i < length (asked_pages layout control.phase) → (if steps_walk build then first_fault layout past (accesses layout control (Probe i)) else None) ≡ None → WasMapped past (slice_index (asked_pages layout control.phase) i)
-    found_by Resident e i l h = resident_mapped past _ e (asked_low layout control.phase i l)
-    found_by SealedBuild e i l h = let walks = all_walk (accesses layout control (Probe i)) h in (0, walks.1.1.0)
-
-    found : (next : Context) → ContextFits layout control.phase (length control.stack) next → step_fault layout past (accesses layout control next) ≡ None → Found next
-    found (Probe i) h e = found_by layout.build refl i h.1 e
+    found : (next : Context) → ContextFits layout control.phase (length control.stack) next → first_fault layout past (accesses layout control next) ≡ None → Found next
+    found (Probe i) h e = let walks = all_walk (accesses layout control (Probe i)) e in (0, walks.1.1.0)
     found Program h e = tt
     found (Enter k v) h e = tt
     found Finish h e = tt
@@ -273,7 +243,7 @@ module _ (layout : Layout) where
 
     -- ---- Any turn
 
-    unless_ever : (context : Context) (o : Option Access) → control.now ≡ Some context → ContextFits layout control.phase (length control.stack) context → step_fault layout past (accesses layout control context) ≡ o → TurnEver past (unless_fault layout control context o)
+    unless_ever : (context : Context) (o : Option Access) → control.now ≡ Some context → ContextFits layout control.phase (length control.stack) context → first_fault layout past (accesses layout control context) ≡ o → TurnEver past (unless_fault layout control context o)
     unless_ever context None n h e = effect_ever context (subst (NowProbed past control.phase) n old.now) (found context h e)
     unless_ever context (Some t) n h e = record { queue = old.queue; stack = (subst (NowProbed past control.phase) n old.now, old.stack); now = tt }
 
@@ -290,11 +260,11 @@ module _ (layout : Layout) where
     turn_by : (now : Option Context) → control.now ≡ now → NowFits layout control.phase control.stack now → TurnEver past (turn_of layout past control now)
     turn_by None n h = old
     turn_by (Some Program) n h = event_ever (due control.count control.rest)
-    turn_by (Some (Enter k v)) n h = unless_ever (Enter k v) (step_fault layout past (accesses layout control (Enter k v))) n h refl
-    turn_by (Some (Probe i)) n h = unless_ever (Probe i) (step_fault layout past (accesses layout control (Probe i))) n h refl
-    turn_by (Some Finish) n h = unless_ever Finish (step_fault layout past (accesses layout control Finish)) n h refl
-    turn_by (Some Guard) n h = unless_ever Guard (step_fault layout past (accesses layout control Guard)) n h refl
-    turn_by (Some (Leave b a)) n h = unless_ever (Leave b a) (step_fault layout past (accesses layout control (Leave b a))) n h refl
+    turn_by (Some (Enter k v)) n h = unless_ever (Enter k v) (first_fault layout past (accesses layout control (Enter k v))) n h refl
+    turn_by (Some (Probe i)) n h = unless_ever (Probe i) (first_fault layout past (accesses layout control (Probe i))) n h refl
+    turn_by (Some Finish) n h = unless_ever Finish (first_fault layout past (accesses layout control Finish)) n h refl
+    turn_by (Some Guard) n h = unless_ever Guard (first_fault layout past (accesses layout control Guard)) n h refl
+    turn_by (Some (Leave b a)) n h = unless_ever (Leave b a) (first_fault layout past (accesses layout control (Leave b a))) n h refl
 
   -- ---- A run
 
@@ -309,11 +279,7 @@ module _ (layout : Layout) where
         go_ever n (after_turn layout so_far control control.now) (turn layout past control) (turn_fits layout so_far fit past control o)
         (turn_by past so_far control o old control.now refl o.now) (run_ever n (after_turn layout so_far control control.now))
 
-  -- ---- After the build, and one move later
-
-  built_by : (build : Build) → layout.build ≡ build → (p : ℕ) → p < pages layout → is_in (queue_at_build build layout) (cluster_at layout p) ≡ true → WasMapped [] p
-  built_by Resident e p low h = resident_mapped [] p e low
-  built_by SealedBuild e p low h = absurd (cc)
+  -- ---- One move later
 
   later_probed : (pair : Pair) (past : History) (phase : Phase) (context : Context) → Probed past phase context → Probed (pair ∷ past) phase context
   later_probed pair past phase (Probe i) h = λ c e j l. let at = h c e j l in (suc at.0, at.1)
@@ -365,8 +331,8 @@ module _ (layout : Layout) where
       low m
 
   -- after each move of a trace each page of what is in was mapped at some moment
-  pub trace_ever : IsValid layout → (tape : List Event) → MissesFit layout (queue_at_build layout.build layout) tape → (moves : List Move) → Ever (trace layout tape moves).past (trace layout tape moves).control
-  trace_ever valid tape misses [] = record { queue = built_by layout.build refl; stack = tt; now = tt }
+  pub trace_ever : IsValid layout → (tape : List Event) → MissesFit layout [] tape → (moves : List Move) → Ever (trace layout tape moves).past (trace layout tape moves).control
+  trace_ever valid tape misses [] = record { queue = λ p low h. absurd (cc); stack = tt; now = tt }
   trace_ever valid tape misses (m ∷ moves) =
       let moment : Moment = trace layout tape moves in
       ever_later (m, answer layout moment.past moment.control m) moment.past (after_move layout moment m).control

@@ -9,7 +9,6 @@ use Rattle.ak_core.specs.declared.moves.Exit.{Exit}
 use Rattle.ak_core.specs.declared.moves.Exit.TheVariants.{Still, Pf, Ask}
 use Rattle.ak_core.specs.declared.moves.Move.{Move}
 use Rattle.ak_model.specs.Paging.Pages.{pages}
-use Rattle.ak_model.specs.Paging.Build.{queue_at_build}
 use Rattle.ak_model.specs.Paging.Histories.{Unchanged, Enters, Resumes, Exits, Interrupts, if_left}
 use Rattle.ak_model.specs.Paging.Inside.{someone_inside}
 use Rattle.ak_model.specs.Paging.Walk.{access_walkable}
@@ -244,7 +243,7 @@ module _ (layout : Layout) (tape : List Event) where
       Kept layout (trace layout tape (moves_before_fault layout tape moves)) (came_back moves) (was_early moves)
       (entered_since_ask (trace layout tape moves).past) (returned_at (trace layout tape moves).past) (trace layout tape moves).control
 
-  pub trace_kept : IsValid layout → MissesFit layout (queue_at_build layout.build layout) tape → (moves : List Move) → KeptAt moves
+  pub trace_kept : IsValid layout → MissesFit layout [] tape → (moves : List Move) → KeptAt moves
   trace_kept valid misses [] = record { at = λ live. tt; probing = λ a p. absurd (cc); guard = λ a g. absurd (cc) }
   trace_kept valid misses (m ∷ moves) =
       did_next layout valid tape misses m moves (After layout tape moves (queue_by layout (program_turns layout tape moves)) (came_back moves) (was_early moves))

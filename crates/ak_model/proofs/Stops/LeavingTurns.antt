@@ -11,12 +11,11 @@ use Rattle.ak_core.specs.declared.event.Event.{Event}
 use Rattle.ak_core.specs.declared.event.Event.TheVariants.{Call, Miss, Trap, Break}
 use Rattle.ak_core.specs.declared.event.StopCause.TheVariants.{Unmapped, RuntimeUnmapped, FetchNotHonoured, ResumedEarly, Stuck}
 use Rattle.ak_model.specs.Paging.Pages.{pages}
-use Rattle.ak_model.specs.Paging.Build.{steps_walk}
 use Rattle.ak_model.specs.Paging.Histories.{History}
 use Rattle.ak_model.specs.Paging.Walk.{access_walkable}
 use Rattle.ak_model.specs.Control.ControlState.{Phase, New, Running, Calling, Asked, Ended, Trapped, Dead, Context, Program, Enter, Probe, Finish, Guard, Leave, Reason, Interrupted, Cleared, Raised, Denied, Missed, Broke, Faulted, Saved, Cause, ByBreak, Named, Control, cssa, first_cause, is_asked}
 use Rattle.ak_model.specs.Control.OneTurn.{Turn, Goes, Leaves}
-use Rattle.ak_model.specs.Control.RuntimeTurn.{asked_pages, accesses, step_fault, guard_top, program_at_bottom, shown_fault, nested_cause, die, guarded, guarded_twice, handle, enter, finish, resume_guard, leave_call, effect, unless_fault}
+use Rattle.ak_model.specs.Control.RuntimeTurn.{asked_pages, accesses, first_fault, guard_top, program_at_bottom, shown_fault, nested_cause, die, guarded, guarded_twice, handle, enter, finish, resume_guard, leave_call, effect, unless_fault}
 use Rattle.ak_model.specs.Control.EventTurn.{due, leave_program, event_turn}
 use Rattle.ak_model.specs.Control.Runs.{turn_of, turn}
 use Rattle.ak_model.specs.Stops.Blame.{is_fault}
@@ -294,18 +293,18 @@ module _ (layout : Layout) (past : History) where
         let parts = or_parts (is_past_probes last context (Faulted t)) (stack_past last control.stack) h in
         (ap is_finish_now n ∙ not_finish last context (Faulted t) parts.0, parts.1)
 
-    unless_left : (context : Context) (o : Option Access) → control.now ≡ Some context → ContextFits layout control.phase (length control.stack) context → step_fault layout past (accesses layout control context) ≡ o → TurnIsOrderly layout so_far (unless_fault layout control context o) → TurnLeft control (unless_fault layout control context o)
+    unless_left : (context : Context) (o : Option Access) → control.now ≡ Some context → ContextFits layout control.phase (length control.stack) context → first_fault layout past (accesses layout control context) ≡ o → TurnIsOrderly layout so_far (unless_fault layout control context o) → TurnLeft control (unless_fault layout control context o)
     unless_left context None n h e fits = effect_left context n h
     unless_left context (Some t) n h e fits = record {
       out = refl;
-      refusal = λ l. Faults refl (record { context = context; access = t; now = n; lost = unwalkable layout past (steps_walk layout.build) (accesses layout control context) t e; stack = refl; phase = refl });
+      refusal = λ l. Faults refl (record { context = context; access = t; now = n; lost = unwalkable layout past (accesses layout control context) t e; stack = refl; phase = refl });
       probing = λ a p. (refl, pushed_probes context t n p, refl, pushed_past context t n);
-      cause = stuck_by (cssa control == 2) context t refl h fits.stack.0.reason (unwalkable layout past (steps_walk layout.build) (accesses layout control context) t e);
+      cause = stuck_by (cssa control == 2) context t refl h fits.stack.0.reason (unwalkable layout past (accesses layout control context) t e);
       stays = stuck_stays (cssa control == 2) t;
     }
 
-    runtime_left : (context : Context) → control.now ≡ Some context → ContextFits layout control.phase (length control.stack) context → TurnIsOrderly layout so_far (unless_fault layout control context (step_fault layout past (accesses layout control context))) → TurnLeft control (unless_fault layout control context (step_fault layout past (accesses layout control context)))
-    runtime_left context n h fits = unless_left context (step_fault layout past (accesses layout control context)) n h refl fits
+    runtime_left : (context : Context) → control.now ≡ Some context → ContextFits layout control.phase (length control.stack) context → TurnIsOrderly layout so_far (unless_fault layout control context (first_fault layout past (accesses layout control context))) → TurnLeft control (unless_fault layout control context (first_fault layout past (accesses layout control context)))
+    runtime_left context n h fits = unless_left context (first_fault layout past (accesses layout control context)) n h refl fits
 
     -- ---- A turn of the program
 

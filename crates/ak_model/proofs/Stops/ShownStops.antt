@@ -9,11 +9,10 @@ use Rattle.ak_core.specs.declared.event.Event.TheVariants.{Call, Miss, Trap, Bre
 use Rattle.ak_core.specs.declared.moves.Exit.{Exit}
 use Rattle.ak_core.specs.declared.moves.Exit.TheVariants.{Still, Stopped}
 use Rattle.ak_core.specs.declared.moves.Move.{Move}
-use Rattle.ak_model.specs.Paging.Build.{queue_at_build}
 use Rattle.ak_model.specs.Paging.Histories.{History, Exits, if_left, change_of}
 use Rattle.ak_model.specs.Paging.Inside.{inside}
 use Rattle.ak_model.specs.Control.ControlState.{Phase, New, Running, Calling, Asked, Ended, Trapped, Dead, Context, Program, Enter, Probe, Finish, Guard, Leave, Reason, Interrupted, Cleared, Raised, Denied, Missed, Broke, Faulted, Saved, Cause, Control, cssa, first_cause}
-use Rattle.ak_model.specs.Control.RuntimeTurn.{accesses, step_fault, handle, enter, finish, resume_guard, leave_call, effect, unless_fault}
+use Rattle.ak_model.specs.Control.RuntimeTurn.{accesses, first_fault, handle, enter, finish, resume_guard, leave_call, effect, unless_fault}
 use Rattle.ak_model.specs.Control.EventTurn.{due, event_turn}
 use Rattle.ak_model.specs.Control.OneTurn.{Turn, Goes, Leaves}
 use Rattle.ak_model.specs.Control.Runs.{turn_of, turn, go_on, run}
@@ -135,11 +134,11 @@ module _ (layout : Layout) where
     turn_stops : (past : History) (now : Option Context) → PhaseFits layout control.queue control.cause control.phase → NowFits layout control.phase control.stack now → TurnStops control (turn_of layout past control now)
     turn_stops past None p fits = same Still _ refl refl
     turn_stops past (Some Program) p fits = events (due control.count control.rest)
-    turn_stops past (Some (Enter k v)) p fits = steps (Enter k v) (step_fault layout past (accesses layout control (Enter k v))) p fits
-    turn_stops past (Some (Probe i)) p fits = steps (Probe i) (step_fault layout past (accesses layout control (Probe i))) p fits
-    turn_stops past (Some Finish) p fits = steps Finish (step_fault layout past (accesses layout control Finish)) p fits
-    turn_stops past (Some Guard) p fits = steps Guard (step_fault layout past (accesses layout control Guard)) p fits
-    turn_stops past (Some (Leave b a)) p fits = steps (Leave b a) (step_fault layout past (accesses layout control (Leave b a))) p fits
+    turn_stops past (Some (Enter k v)) p fits = steps (Enter k v) (first_fault layout past (accesses layout control (Enter k v))) p fits
+    turn_stops past (Some (Probe i)) p fits = steps (Probe i) (first_fault layout past (accesses layout control (Probe i))) p fits
+    turn_stops past (Some Finish) p fits = steps Finish (first_fault layout past (accesses layout control Finish)) p fits
+    turn_stops past (Some Guard) p fits = steps Guard (first_fault layout past (accesses layout control Guard)) p fits
+    turn_stops past (Some (Leave b a)) p fits = steps (Leave b a) (first_fault layout past (accesses layout control (Leave b a))) p fits
 
   -- ---- A run
 
@@ -190,7 +189,7 @@ module _ (layout : Layout) where
   -- ---- Whole traces
 
   -- where a processor left with the exit of a stopped enclave, the stop has a cause
-  pub stop-has_cause : IsValid layout → (tape : List Event) → MissesFit layout (queue_at_build layout.build layout) tape → (moves : List Move) → shows_stop (trace layout tape moves).past ≡ true → is_some (trace layout tape moves).control.cause ≡ true
+  pub stop-has_cause : IsValid layout → (tape : List Event) → MissesFit layout [] tape → (moves : List Move) → shows_stop (trace layout tape moves).past ≡ true → is_some (trace layout tape moves).control.cause ≡ true
   stop-has_cause valid tape misses [] h = cc
   stop-has_cause valid tape misses (m ∷ moves) h =
       let before : Moment = trace layout tape moves in

@@ -6,7 +6,6 @@ use Rattle.ak_core.specs.Layout.{Layout, IsValid}
 use Rattle.ak_core.specs.declared.event.Event.{Event}
 use Rattle.ak_core.specs.declared.event.StopCause.TheVariants.{Unmapped, RuntimeUnmapped, FetchNotHonoured, ResumedEarly, Stuck}
 use Rattle.ak_core.specs.declared.moves.Move.{Move}
-use Rattle.ak_model.specs.Paging.Build.{queue_at_build}
 use Rattle.ak_model.specs.Paging.Histories.{History}
 use Rattle.ak_model.specs.Paging.Inside.{someone_inside}
 use Rattle.ak_model.specs.Control.ControlState.{Cause, ByBreak, Named, Control, is_asked}
@@ -73,7 +72,7 @@ module _ (layout : Layout) (past : History) (control : Control) where
 
 -- ---- Its place among the moves
 
-module _ (layout : Layout) (valid : IsValid layout) (tape : List Event) (misses : MissesFit layout (queue_at_build layout.build layout) tape) where
+module _ (layout : Layout) (valid : IsValid layout) (tape : List Event) (misses : MissesFit layout [] tape) where
   abbrev pub Of : List Move → Control
   Of moves = (trace layout tape moves).control
 

@@ -6,7 +6,6 @@ use Rattle.ak_core.specs.declared.moves.Exit.{Exit}
 use Rattle.ak_core.specs.declared.moves.Exit.TheVariants.{Still}
 use Rattle.ak_core.specs.declared.event.Event.{Event}
 use Rattle.ak_core.specs.declared.moves.Move.{Move}
-use Rattle.ak_model.specs.Paging.Build.{queue_at_build}
 use Rattle.ak_model.specs.Paging.Histories.{History, Resumes, Exits, Interrupts, if_left}
 use Rattle.ak_model.specs.Paging.Inside.{inside, someone_inside}
 use Rattle.ak_model.specs.Control.ControlState.{Context, Reason, Interrupted, Cleared, Raised, Denied, Missed, Broke, Faulted, Saved, Control}
@@ -81,7 +80,7 @@ module _ (layout : Layout) (fit : ClustersFit layout) where
       low m
 
 -- after each move the last fault is the one that the newest refusal tells of
-pub trace_stands : (layout : Layout) (tape : List Event) (moves : List Move) → IsValid layout → MissesFit layout (queue_at_build layout.build layout) tape → FaultIsToldAt layout (program_turns layout tape moves) (trace layout tape moves)
+pub trace_stands : (layout : Layout) (tape : List Event) (moves : List Move) → IsValid layout → MissesFit layout [] tape → FaultIsToldAt layout (program_turns layout tape moves) (trace layout tape moves)
 trace_stands layout tape [] valid misses = record { fault = λ l. tt; guard = λ h. absurd (cc) }
 trace_stands layout tape (m ∷ moves) valid misses =
     step_stands layout (clusters_fit layout valid) (program_turns layout tape moves) (trace layout tape moves) m (λ lp. placed layout lp tape moves)

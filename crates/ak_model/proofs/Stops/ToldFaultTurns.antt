@@ -7,12 +7,11 @@ use Rattle.ak_core.specs.Mem.{Access}
 use Rattle.ak_core.specs.declared.moves.Exit.{Exit}
 use Rattle.ak_core.specs.declared.event.Event.{Event}
 use Rattle.ak_core.specs.declared.event.Event.TheVariants.{Call, Miss, Trap, Break}
-use Rattle.ak_model.specs.Paging.Build.{steps_walk}
 use Rattle.ak_model.specs.Paging.Histories.{History}
 use Rattle.ak_model.specs.Paging.Walk.{access_walkable}
 use Rattle.ak_model.specs.Control.ControlState.{Phase, New, Running, Calling, Asked, Ended, Trapped, Dead, Context, Program, Enter, Probe, Finish, Guard, Leave, Reason, Interrupted, Cleared, Raised, Denied, Missed, Broke, Faulted, Saved, Control}
 use Rattle.ak_model.specs.Control.OneTurn.{Turn, Goes, Leaves}
-use Rattle.ak_model.specs.Control.RuntimeTurn.{asked_pages, accesses, step_fault, guard_top, program_at_bottom, shown_fault, handle, enter, finish, resume_guard, leave_call, effect, unless_fault, runtime_turn}
+use Rattle.ak_model.specs.Control.RuntimeTurn.{asked_pages, accesses, first_fault, guard_top, program_at_bottom, shown_fault, handle, enter, finish, resume_guard, leave_call, effect, unless_fault, runtime_turn}
 use Rattle.ak_model.specs.Control.EventTurn.{due, leave_program, event_turn}
 use Rattle.ak_model.specs.Control.Runs.{turn_of, turn, Ran, go_on, run, unless_left, before_turns}
 use Rattle.ak_model.specs.Tapes.ProgramTurns.{ProgramTurn, turn_in, turns_in, turns_of_run}
@@ -129,8 +128,8 @@ module _ (layout : Layout) (past : History) (resumed : ℕ) where
 
     runtime_stands : (next : Context) → ContextFits layout control.phase (length control.stack) next → TurnStands before turns (runtime_turn layout past control next)
     runtime_stands next h =
-        unless_stands next (step_fault layout past (accesses layout control next)) h
-        (unwalkable layout past (steps_walk layout.build) (accesses layout control next))
+        unless_stands next (first_fault layout past (accesses layout control next)) h
+        (unwalkable layout past (accesses layout control next))
 
     -- ---- A turn of the program
 

@@ -9,7 +9,6 @@ use Rattle.ak_core.specs.declared.moves.Answer.{Answer}
 use Rattle.ak_core.specs.declared.moves.Exit.{Exit}
 use Rattle.ak_core.specs.declared.moves.Exit.TheVariants.{Still}
 use Rattle.ak_core.specs.declared.moves.Move.{Move}
-use Rattle.ak_model.specs.Paging.Build.{queue_at_build}
 use Rattle.ak_model.specs.Paging.Histories.{History, Exits, if_left}
 use Rattle.ak_model.specs.Paging.Inside.{inside, someone_inside}
 use Rattle.ak_model.specs.Control.ControlState.{Context, Program, Enter, Probe, Finish, Guard, Leave, Control}
@@ -161,7 +160,7 @@ module _ (layout : Layout) where
   shown_more before a None e = filter_map-append shown_by before (a ∷ []) ∙ rw e (append-nil (filter_map shown_by before))
   shown_more before a (Some output) e = filter_map-append shown_by before (a ∷ []) ∙ rw e refl
 
-  module _ (valid : IsValid layout) (tape : List Event) (misses : MissesFit layout (queue_at_build layout.build layout) tape) where
+  module _ (valid : IsValid layout) (tape : List Event) (misses : MissesFit layout [] tape) where
     abbrev ServedAt : List Move → Type 0
     ServedAt moves = AreServed (program_turns layout tape moves) (shown_outputs (answers (trace layout tape moves))) (trace layout tape moves).control
 

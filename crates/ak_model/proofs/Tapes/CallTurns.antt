@@ -9,7 +9,7 @@ use Rattle.ak_core.specs.declared.moves.Exit.{Exit}
 use Rattle.ak_model.specs.Paging.Histories.{History}
 use Rattle.ak_model.specs.Control.ControlState.{Running, Context, Program, Enter, Probe, Finish, Guard, Leave, Reason, Interrupted, Raised, Denied, Faulted, Missed, Broke, Saved, Control, cssa}
 use Rattle.ak_model.specs.Control.OneTurn.{Turn, Goes}
-use Rattle.ak_model.specs.Control.RuntimeTurn.{shown_fault, accesses, step_fault, effect, fault, unless_fault}
+use Rattle.ak_model.specs.Control.RuntimeTurn.{shown_fault, accesses, first_fault, effect, fault, unless_fault}
 use Rattle.ak_model.specs.Control.EventTurn.{due, leave_program, vector_turn, event_turn}
 use Rattle.ak_model.specs.Control.Runs.{turn_of, turn}
 use Rattle.ak_model.specs.Control.Entering.{entered, resumed_by, interrupted_by}
@@ -90,11 +90,11 @@ module _ (layout : Layout) (control : Control) (calls : ℕ) (old : IsAnswered c
       TurnIsAnswered (calls_now control now + calls) (turn_of layout past control now)
   turns past None is stack fits = more_turn (Goes control) old
   turns past (Some Program) is stack fits = event_turns (due control.count control.rest) is fits.0 fits.1
-  turns past (Some (Enter k v)) is stack fits = more_turn (turn_of layout past control (Some (Enter k v))) (steps (Enter k v) (step_fault layout past (accesses layout control (Enter k v))) is stack fits)
-  turns past (Some (Probe i)) is stack fits = more_turn (turn_of layout past control (Some (Probe i))) (steps (Probe i) (step_fault layout past (accesses layout control (Probe i))) is stack fits)
-  turns past (Some Finish) is stack fits = more_turn (turn_of layout past control (Some Finish)) (steps Finish (step_fault layout past (accesses layout control Finish)) is stack fits)
-  turns past (Some Guard) is stack fits = more_turn (turn_of layout past control (Some Guard)) (steps Guard (step_fault layout past (accesses layout control Guard)) is stack fits)
-  turns past (Some (Leave b a)) is stack fits = more_turn (turn_of layout past control (Some (Leave b a))) (steps (Leave b a) (step_fault layout past (accesses layout control (Leave b a))) is stack fits)
+  turns past (Some (Enter k v)) is stack fits = more_turn (turn_of layout past control (Some (Enter k v))) (steps (Enter k v) (first_fault layout past (accesses layout control (Enter k v))) is stack fits)
+  turns past (Some (Probe i)) is stack fits = more_turn (turn_of layout past control (Some (Probe i))) (steps (Probe i) (first_fault layout past (accesses layout control (Probe i))) is stack fits)
+  turns past (Some Finish) is stack fits = more_turn (turn_of layout past control (Some Finish)) (steps Finish (first_fault layout past (accesses layout control Finish)) is stack fits)
+  turns past (Some Guard) is stack fits = more_turn (turn_of layout past control (Some Guard)) (steps Guard (first_fault layout past (accesses layout control Guard)) is stack fits)
+  turns past (Some (Leave b a)) is stack fits = more_turn (turn_of layout past control (Some (Leave b a))) (steps (Leave b a) (first_fault layout past (accesses layout control (Leave b a))) is stack fits)
 
   -- a turn keeps the count
   pub turn-answered : (past : History) → StackFits layout control.phase control.queue control.stack → NowFits layout control.phase control.stack control.now →

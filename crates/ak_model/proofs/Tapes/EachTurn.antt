@@ -7,7 +7,6 @@ use Rattle.ak_core.specs.Mem.{Access}
 use Rattle.ak_core.specs.declared.event.Event.{Event}
 use Rattle.ak_core.specs.declared.event.Event.TheVariants.{Call, Miss, Trap, Break}
 use Rattle.ak_model.specs.Clusters.Queue.{queue_after}
-use Rattle.ak_model.specs.Paging.Build.{queue_at_build}
 use Rattle.ak_model.specs.Tapes.ProgramTurns.{ProgramTurn}
 use Rattle.ak_model.specs.Sound.Forced.{EachTurn, missed_by, queue_by, FaultsIn, IfBroken}
 use Rattle.ak_model.specs.Laws.ToldFault.{is_break}
@@ -50,8 +49,8 @@ none_missed : (turns : List ProgramTurn) → EachTurn (λ turn. λ older. missed
 none_missed [] h = refl
 none_missed (turn ∷ older) h = rw h.0 (none_missed older h.1)
 
--- the build's clusters are in
-pub queue_by-none : (layout : Layout) (turns : List ProgramTurn) → EachTurn (λ turn. λ older. missed_by turn.event ≡ None) turns → queue_by layout turns ≡ queue_at_build layout.build layout
+-- after no miss no cluster is in
+pub queue_by-none : (layout : Layout) (turns : List ProgramTurn) → EachTurn (λ turn. λ older. missed_by turn.event ≡ None) turns → queue_by layout turns ≡ []
 queue_by-none layout turns h = ap (λ misses. queue_after layout (reverse misses)) (none_missed turns h)
 
 -- ---- Breaks

@@ -9,7 +9,6 @@ use Rattle.ak_core.specs.declared.event.Event.{Event}
 use Rattle.ak_core.specs.declared.event.Event.TheVariants.{Call, Miss, Trap, Break}
 use Rattle.ak_core.specs.declared.moves.Move.{Move}
 use Rattle.ak_model.specs.Paging.Pages.{cluster_at}
-use Rattle.ak_model.specs.Paging.Build.{queue_at_build}
 use Rattle.ak_model.specs.Paging.Histories.{History}
 use Rattle.ak_model.specs.Paging.Inside.{inside}
 use Rattle.ak_model.specs.Clusters.Queue.{after_miss, queue_after}
@@ -184,7 +183,7 @@ module _ (layout : Layout) (valid : IsValid layout) (runs : FlatRuns) where
   )
 
   -- the events of turns that miss as they are forced to, before others
-  pub misses-fit : (turns : List ProgramTurn) (rest : List Event) → EachTurn (λ turn. λ older. MissedBy layout runs turn older turn.event) turns → MissesFit layout (queue_by layout turns) rest → MissesFit layout (queue_at_build layout.build layout) (taken turns rest)
+  pub misses-fit : (turns : List ProgramTurn) (rest : List Event) → EachTurn (λ turn. λ older. MissedBy layout runs turn older turn.event) turns → MissesFit layout (queue_by layout turns) rest → MissesFit layout [] (taken turns rest)
   misses-fit [] rest h k = k
   misses-fit (turn ∷ older) rest h k =
       misses-fit older (with_event turn.event rest) h.1 (one_fits turn older turn.event rest refl h.0 k)

@@ -9,7 +9,7 @@ use Rattle.ak_core.specs.declared.moves.Exit.TheVariants.{Still}
 use Rattle.ak_core.specs.declared.moves.Move.{Move}
 use Rattle.ak_core.specs.declared.moves.Move.TheVariants.{SetPte, ReadPte, Eblock, Etrack, Ewb, Eldu, Eldb, Eremove, Epa, Discard, Eenter, Eresume, Run, Interrupt}
 use Rattle.ak_core.specs.declared.page.Lp.{Lp}
-use Rattle.ak_model.specs.Paging.Build.{known_pages}
+use Rattle.ak_model.specs.Paging.Pages.{all_pages}
 use Rattle.ak_model.specs.Paging.Histories.{History, Change, Exits, change, if_ok, if_left}
 use Rattle.ak_model.specs.Paging.Holdings.{Held, FreeFrame, SecsFrame, VaFrame, PageFrame}
 use Rattle.ak_model.specs.Paging.Frames.{held, blocked_at}
@@ -113,7 +113,7 @@ module _ (layout : Layout) (past : History) (control : Control) where
   silent_answer (SetPte p f flags) h = one_of _ Ok NoPage (known Ok refl) (known NoPage refl)
   silent_answer (ReadPte p) h =
       let entry = pte layout past p.0 in
-      one_of (nat_lt p.0 (known_pages layout.build layout)) (Answer.Pte (record { 0 = entry.frame }) entry.flags) NoPage
+      one_of (nat_lt p.0 (all_pages layout)) (Answer.Pte (record { 0 = entry.frame }) entry.flags) NoPage
       (known (Answer.Pte (record { 0 = entry.frame }) entry.flags) refl) (known NoPage refl)
   silent_answer (Eblock f) h = frame_silent (view_of layout past) f.0 _ (block_silent (view_of layout past) (held layout past f.0) (is_some (blocked_at past f.0)))
   silent_answer Etrack h = one_of _ PrevIncomplete Ok (known PrevIncomplete refl) (known Ok refl)

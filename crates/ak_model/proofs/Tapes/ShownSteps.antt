@@ -10,7 +10,7 @@ use Rattle.ak_model.specs.Paging.Histories.{History}
 use Rattle.ak_model.specs.Flat.FlatRuns.{output_of_call}
 use Rattle.ak_model.specs.Control.ControlState.{Phase, New, Running, Calling, Asked, Ended, Trapped, Dead, Context, Program, Enter, Probe, Finish, Guard, Leave, Reason, Interrupted, Cleared, Raised, Denied, Missed, Broke, Faulted, Saved, Control, cssa}
 use Rattle.ak_model.specs.Control.OneTurn.{Turn}
-use Rattle.ak_model.specs.Control.RuntimeTurn.{shown_fault, program_at_bottom, accesses, step_fault, handle, enter, finish, resume_guard, leave_call, effect, fault, unless_fault}
+use Rattle.ak_model.specs.Control.RuntimeTurn.{shown_fault, program_at_bottom, accesses, first_fault, handle, enter, finish, resume_guard, leave_call, effect, fault, unless_fault}
 use Rattle.ak_model.specs.Control.EventTurn.{due, leave_program, vector_turn, event_turn}
 use Rattle.ak_model.specs.Control.Runs.{turn_of, turn}
 use Rattle.ak_model.specs.Control.Entering.{entered, resumed_by, interrupted_by}
@@ -212,11 +212,11 @@ module _ (layout : Layout) (control : Control) (called shown : List ℕ) (old : 
       TurnShows (called_now now) shown (turn_of layout past control now)
   turns past None is stack fits = old
   turns past (Some Program) is stack fits = event_turns (due control.count control.rest) is fits.0 fits.1
-  turns past (Some (Enter k v)) is stack fits = steps (Enter k v) (step_fault layout past (accesses layout control (Enter k v))) is stack fits
-  turns past (Some (Probe i)) is stack fits = steps (Probe i) (step_fault layout past (accesses layout control (Probe i))) is stack fits
-  turns past (Some Finish) is stack fits = steps Finish (step_fault layout past (accesses layout control Finish)) is stack fits
-  turns past (Some Guard) is stack fits = steps Guard (step_fault layout past (accesses layout control Guard)) is stack fits
-  turns past (Some (Leave b a)) is stack fits = steps (Leave b a) (step_fault layout past (accesses layout control (Leave b a))) is stack fits
+  turns past (Some (Enter k v)) is stack fits = steps (Enter k v) (first_fault layout past (accesses layout control (Enter k v))) is stack fits
+  turns past (Some (Probe i)) is stack fits = steps (Probe i) (first_fault layout past (accesses layout control (Probe i))) is stack fits
+  turns past (Some Finish) is stack fits = steps Finish (first_fault layout past (accesses layout control Finish)) is stack fits
+  turns past (Some Guard) is stack fits = steps Guard (first_fault layout past (accesses layout control Guard)) is stack fits
+  turns past (Some (Leave b a)) is stack fits = steps (Leave b a) (first_fault layout past (accesses layout control (Leave b a))) is stack fits
 
   -- a turn
   pub turn-shows : (past : History) → StackFits layout control.phase control.queue control.stack → NowFits layout control.phase control.stack control.now →

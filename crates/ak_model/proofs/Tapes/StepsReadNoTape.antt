@@ -7,7 +7,7 @@ use Rattle.ak_core.specs.declared.event.Event.{Event}
 use Rattle.ak_model.specs.Paging.Histories.{History}
 use Rattle.ak_model.specs.Control.ControlState.{Phase, New, Running, Calling, Asked, Ended, Trapped, Dead, Context, Program, Enter, Probe, Finish, Guard, Leave, Reason, Interrupted, Cleared, Raised, Denied, Missed, Broke, Faulted, Saved, Control}
 use Rattle.ak_model.specs.Control.OneTurn.{Turn, Goes, Leaves}
-use Rattle.ak_model.specs.Control.RuntimeTurn.{accesses, step_fault, own_fault, handle, enter, next_probe, asked_pages, leave_call, effect, unless_fault, runtime_turn}
+use Rattle.ak_model.specs.Control.RuntimeTurn.{accesses, first_fault, own_fault, handle, enter, next_probe, asked_pages, leave_call, effect, unless_fault, runtime_turn}
 
 abbrev pub on_turn : (Control → Control) → Turn → Turn
 on_turn f (Goes control) = Goes (f control)
@@ -95,5 +95,5 @@ module _ (layout : Layout) (rest : List Event) (count : ℕ) where
   -- a runtime step with another rest and count
   pub runtime_keeps : (past : History) (control : Control) (context : Context) → runtime_turn layout past (with_tape rest count control) context ≡ on_turn (with_tape rest count) (runtime_turn layout past control context)
   runtime_keeps past control context =
-      ap (λ all. unless_fault layout (with_tape rest count control) context (step_fault layout past all)) (accesses_keep control context)
-      ∙ fault_keeps control context (step_fault layout past (accesses layout control context))
+      ap (λ all. unless_fault layout (with_tape rest count control) context (first_fault layout past all)) (accesses_keep control context)
+      ∙ fault_keeps control context (first_fault layout past (accesses layout control context))

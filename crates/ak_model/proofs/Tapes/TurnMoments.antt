@@ -9,7 +9,6 @@ use Rattle.ak_core.specs.Layout.{Layout, IsValid}
 use Rattle.ak_core.specs.declared.event.Event.{Event}
 use Rattle.ak_core.specs.declared.moves.Move.{Move}
 use Rattle.ak_core.specs.declared.moves.Move.TheVariants.{Run}
-use Rattle.ak_model.specs.Paging.Build.{queue_at_build}
 use Rattle.ak_model.specs.Paging.Histories.{History}
 use Rattle.ak_model.specs.Paging.Inside.{inside}
 use Rattle.ak_model.specs.Control.ControlState.{Context, Program, Enter, Probe, Finish, Guard, Leave, Control}
@@ -54,7 +53,7 @@ module _ (layout : Layout) (tape : List Event) (test : Moment → Bool) where
       and_parts (list_all test (turn_moments layout (trace layout tape moves) m)) _
       (sym (list_all-append test (turn_moments layout (trace layout tape moves) m) (moments layout tape moves)) ∙ rest)
 
-  module _ (valid : IsValid layout) (misses : MissesFit layout (queue_at_build layout.build layout) tape) (P : ProgramTurn → List ProgramTurn → Type 0) (each : (moves : List Move) (lp : ℕ) (control : Control) (older : List ProgramTurn) → StandsAt moves lp control older → P (turn_at lp (trace layout tape moves).past control) older) where
+  module _ (valid : IsValid layout) (misses : MissesFit layout [] tape) (P : ProgramTurn → List ProgramTurn → Type 0) (each : (moves : List Move) (lp : ℕ) (control : Control) (older : List ProgramTurn) → StandsAt moves lp control older → P (turn_at lp (trace layout tape moves).past control) older) where
     -- ---- A run
 
     module _ (moves : List Move) (all : AllMoments moves) (lp : ℕ) (within : inside (trace layout tape moves).past lp ≡ true) where

@@ -2,7 +2,6 @@
 use Rattle.std.specs.Prelude.{ℕ, suc, ◌+◌, Bool, List, [], ◌∷◌, ◌++◌, drop, nat_le, fold, sum_by, ◌==◌, if◌then◌else◌}
 use Rattle.std.specs.List.{list_any}
 use Rattle.ak_core.specs.Layout.{Layout, size_of}
-use Rattle.ak_model.specs.Paging.Build.{queue_at_build}
 
 -- how many pages these clusters have together
 abbrev pub total_size : Layout → List ℕ → ℕ
@@ -18,9 +17,9 @@ drops layout (x ∷ queue) c =
 abbrev pub after_miss : Layout → List ℕ → ℕ → List ℕ
 after_miss layout queue c = drop (drops layout queue c) queue ++ c ∷ []
 
--- the queue after these misses, in order, from the build's on
+-- the queue after these misses, in order. After the build no cluster is in
 abbrev pub queue_after : Layout → List ℕ → List ℕ
-queue_after layout misses = fold (after_miss layout) (queue_at_build layout.build layout) misses
+queue_after layout misses = fold (after_miss layout) [] misses
 
 -- the cluster stands in the queue
 abbrev pub is_in : List ℕ → ℕ → Bool

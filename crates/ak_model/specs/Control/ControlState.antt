@@ -1,10 +1,8 @@
 -- The control state of an enclave: all of it that the kernel may know besides its own moves. It has no byte of a page.
 use Rattle.std.specs.Prelude.{ℕ, Bool, true, false, List, [], length, Option, Some, None}
-use Rattle.ak_core.specs.Layout.{Layout}
 use Rattle.ak_core.specs.declared.page.Fault.{Fault}
 use Rattle.ak_core.specs.declared.event.Event.{Event}
 use Rattle.ak_core.specs.declared.event.StopCause.{StopCause}
-use Rattle.ak_model.specs.Paging.Build.{queue_at_build}
 
 -- where the exchange of calls and misses between program, runtime and kernel stands
 pub data Phase : Type 0 where
@@ -58,10 +56,10 @@ pub record Control : Type 0 where
   pub returned : List ℕ  -- what its calls returned, in order
   pub cause : Option Cause  -- why it stopped
 
--- after the build
-abbrev pub control_at_build : Layout → List Event → Control
-control_at_build layout tape =
-    record { phase = New; queue = queue_at_build layout.build layout; stack = []; now = None; pending = false; count = 0; rest = tape; returned = []; cause = None }
+-- after the build no cluster is in
+abbrev pub control_at_build : List Event → Control
+control_at_build tape =
+    record { phase = New; queue = []; stack = []; now = None; pending = false; count = 0; rest = tape; returned = []; cause = None }
 
 -- how many contexts are saved
 abbrev pub cssa : Control → ℕ

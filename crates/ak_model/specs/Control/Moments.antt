@@ -18,6 +18,6 @@ turn_moments layout moment _ = []
 
 -- all moments, the newest first
 abbrev pub moments : Layout → List Event → List Move → List Moment
-moments layout tape [] = moment_at_build layout tape ∷ []
+moments layout tape [] = moment_at_build tape ∷ []
 moments layout tape (m ∷ moves) =
     trace layout tape (m ∷ moves) ∷ (turn_moments layout (trace layout tape moves) m ++ moments layout tape moves)

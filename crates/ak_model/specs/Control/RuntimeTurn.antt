@@ -11,7 +11,6 @@ use Rattle.ak_model.specs.Paging.Pages.{pages, ssa_page, state_page, code_page, 
 use Rattle.ak_model.specs.Paging.Histories.{History}
 use Rattle.ak_model.specs.Paging.Walk.{access_walkable}
 use Rattle.ak_model.specs.Clusters.Queue.{drops}
-use Rattle.ak_model.specs.Paging.Build.{steps_walk}
 use Rattle.ak_model.specs.Control.ControlState.{Phase, New, Running, Calling, Asked, Ended, Trapped, Dead, Context, Program, Enter, Probe, Finish, Guard, Leave, Reason, Interrupted, Cleared, Raised, Denied, Missed, Broke, Faulted, Saved, Cause, ByBreak, Named, Control, cssa, first_cause}
 use Rattle.ak_model.specs.Control.OneTurn.{Turn, Goes, Leaves}
 
@@ -58,13 +57,9 @@ accesses layout control context = access_to (code_page layout) Exec ∷ access_t
     own_accesses Finish = access_to (ssa_page layout 0) Write ∷ []
     own_accesses _ = []
 
--- the first of these that no walk finds
+-- the first access of a step that faults: the first of these that no walk finds
 abbrev pub first_fault : Layout → History → List Access → Option Access
 first_fault layout past all = find (λ t. not (access_walkable layout past t)) all
-
--- the first access of a step that faults
-abbrev pub step_fault : Layout → History → List Access → Option Access
-step_fault layout past all = if steps_walk layout.build then first_fault layout past all else None
 
 -- a page fault, shown to the kernel as a read of the enclave's base
 abbrev pub shown_fault : Layout → Exit
@@ -184,4 +179,4 @@ unless_fault layout control context (Some t) = fault layout control context t
 -- one step of the runtime in this context
 abbrev pub runtime_turn : Layout → History → Control → Context → Turn
 runtime_turn layout past control context =
-    unless_fault layout control context (step_fault layout past (accesses layout control context))
+    unless_fault layout control context (first_fault layout past (accesses layout control context))

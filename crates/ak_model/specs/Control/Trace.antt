@@ -15,8 +15,8 @@ pub record Moment : Type 0 where
   pub control : Control
 
 -- after the build
-abbrev pub moment_at_build : Layout → List Event → Moment
-moment_at_build layout tape = record { past = []; control = control_at_build layout tape }
+abbrev pub moment_at_build : List Event → Moment
+moment_at_build tape = record { past = []; control = control_at_build tape }
 
 -- a move and its answer
 abbrev pub after_answer : Layout → Moment → Move → Answer → Moment
@@ -29,7 +29,7 @@ after_move layout moment m = after_answer layout moment m (answer layout moment.
 
 -- after these moves, the newest first
 abbrev pub trace : Layout → List Event → List Move → Moment
-trace layout tape [] = moment_at_build layout tape
+trace layout tape [] = moment_at_build tape
 trace layout tape (m ∷ moves) = after_move layout (trace layout tape moves) m
 
 -- the answers, in order

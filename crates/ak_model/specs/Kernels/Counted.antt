@@ -1,10 +1,8 @@
 -- What the kernel can count from the moves and answers alone: saved contexts, whether resuming is refused, and which
 -- clusters it has fetched.
 use Rattle.std.specs.Prelude.{◌≡◌, ℕ, ◌+◌, ◌-◌, Bool, true, false, ◌||◌, List, [], ◌∷◌, ◌++◌, take, drop, Option, Some, None}
-use Rattle.ak_core.specs.Layout.{Layout}
 use Rattle.ak_core.specs.declared.moves.Exit.{Exit}
 use Rattle.ak_core.specs.declared.moves.Exit.TheVariants.{Pf, Vector, Ask, Ready}
-use Rattle.ak_model.specs.Paging.Build.{queue_at_build}
 use Rattle.ak_model.specs.Control.ControlState.{Phase, Asked, Control, cssa}
 use Rattle.ak_model.specs.Control.Trace.{Moment}
 use Rattle.ak_model.specs.Paging.Histories.{History, Change, change_of, Enters, Resumes, Exits, Interrupts}
@@ -71,9 +69,9 @@ service_after (Exits lp exit) before = service_by exit before
 service_after _ before = before
 
 -- the clusters that are in and the open request, as the exits told them
-abbrev pub service : Layout → History → Service
-service layout [] = record { queue = queue_at_build layout.build layout; request = None }
-service layout (pair ∷ past) = service_after (change_of pair) (service layout past)
+abbrev pub service : History → Service
+service [] = record { queue = []; request = None }
+service (pair ∷ past) = service_after (change_of pair) (service past)
 
 -- the open request is for the cluster that is asked for
 abbrev pub IsRequested : Phase → Option Request → Type 0
@@ -88,6 +86,5 @@ pub record Counts (saved : ℕ) (pending : Bool) (service : Service) (control : 
   pub requested : IsRequested control.phase service.request
 
 -- the kernel counts right
-abbrev pub CountsRight : Layout → Moment → Type 0
-CountsRight layout moment =
-    Counts (saved_count moment.past) (is_pending moment.past) (service layout moment.past) moment.control
+abbrev pub CountsRight : Moment → Type 0
+CountsRight moment = Counts (saved_count moment.past) (is_pending moment.past) (service moment.past) moment.control

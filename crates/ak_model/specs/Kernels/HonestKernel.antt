@@ -78,7 +78,7 @@ copy_after layout past (WritesOut f va i k) p before =
     if is_page_in (held layout past f) p then record { handle = k; va = va; slot = i } else before
 copy_after layout past _ p before = before
 
--- the page's newest sealed copy: that of its last write-out, or else the one of a sealed build
+-- the page's newest sealed copy: that of its last write-out, or else the one of the build
 abbrev pub newest_copy : Layout → History → ℕ → Copy
 newest_copy layout [] p = record { handle = p; va = 1; slot = p }
 newest_copy layout (pair ∷ past) p = copy_after layout past (change_of pair) p (newest_copy layout past p)
@@ -206,7 +206,7 @@ rules layout past inputs =
     (or_else (run_inside layout past)
     (or_else (if is_pending past then (if saved == 3 then Gives None else enter_with 0) else Passes)
     (or_else (if saved == 0 then enter_with (next_value past inputs) else Passes)
-    (or_else (if saved == 1 then serve layout past (service layout past).request else Passes)
+    (or_else (if saved == 1 then serve layout past (service past).request else Passes)
     (Gives (Some (Eresume (record { 0 = 0 }))))))))
 
 -- the move that a rule gives

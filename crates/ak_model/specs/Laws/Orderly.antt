@@ -3,8 +3,6 @@
 use Rattle.std.specs.Prelude.{◌≡◌, ◌⊎◌, ℕ, ◌+◌, ◌<◌, ◌≤◌, Bool, true, false, List, [], ◌∷◌, ◌++◌, length, All, Option, Some, None, is_some}
 use Rattle.ak_core.specs.Layout.{Layout, size_of}
 use Rattle.ak_core.specs.Mem.{Access}
-use Rattle.ak_core.specs.declared.build.Build.{Build}
-use Rattle.ak_core.specs.declared.build.Build.TheVariants.{Resident, Sealed as SealedBuild}
 use Rattle.ak_core.specs.declared.event.Event.{Event}
 use Rattle.ak_model.specs.Paging.Pages.{pages, all_pages, strong_kind}
 use Rattle.ak_model.specs.Clusters.Queue.{total_size, after_miss, is_in}
@@ -104,21 +102,16 @@ abbrev pub IsDistinct : List ℕ → Type 0
 IsDistinct [] = Unit {0}
 IsDistinct (c ∷ queue) = (is_in queue c ≡ false) × IsDistinct queue
 
--- so many pages fit the budget; a resident build has all pages in, whatever its budget
-abbrev pub FitBudget : Build → Layout → ℕ → Type 0
-FitBudget Resident layout n = Unit {0}
-FitBudget SealedBuild layout n = n ≤ layout.budget
-
 -- distinct clusters of the layout that fit the budget
 pub record QueueFits (layout : Layout) (queue : List ℕ) : Type 0 where
   pub distinct : IsDistinct queue
   pub known : All (λ c. c < layout.clusters) queue
-  pub small : FitBudget layout.build layout (total_size layout queue)
+  pub small : total_size layout queue ≤ layout.budget
 
 -- a cluster that is asked for is out, and fits the budget with those that are in; a dead enclave has a cause
 abbrev pub PhaseFits : Layout → List ℕ → Option Cause → Phase → Type 0
 PhaseFits layout queue cause (Asked c) =
-    (c < layout.clusters) × (is_in queue c ≡ false) × FitBudget layout.build layout (total_size layout queue + size_of layout.cluster_of c)
+    (c < layout.clusters) × (is_in queue c ≡ false) × (total_size layout queue + size_of layout.cluster_of c ≤ layout.budget)
 PhaseFits layout queue cause Dead = is_some cause ≡ true
 PhaseFits layout queue cause _ = Unit {0}
 

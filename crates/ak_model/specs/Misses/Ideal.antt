@@ -3,7 +3,6 @@ use Rattle.std.specs.Prelude.{length, ℕ, zero, suc, not, List, [], ◌∷◌, 
 use Rattle.ak_core.specs.Layout.{Layout}
 use Rattle.ak_core.specs.Mem.{Access}
 use Rattle.ak_model.specs.Paging.Pages.{cluster_at}
-use Rattle.ak_model.specs.Paging.Build.{queue_at_build}
 use Rattle.ak_model.specs.Clusters.Queue.{after_miss, is_in}
 use Rattle.ak_model.specs.Flat.FlatRuns.{FlatRun, flat_run}
 use Rattle.ak_model.specs.Misses.Reached.{accesses_next, permitted_accesses}
@@ -33,7 +32,7 @@ misses_from layout accesses queue = misses_of layout accesses (length accesses) 
 
 -- the clusters that are in before instruction i
 abbrev pub ideal_queue : Layout → List ℕ → List ℕ → ℕ → List ℕ
-ideal_queue layout image answers zero = queue_at_build layout.build layout
+ideal_queue layout image answers zero = []
 ideal_queue layout image answers (suc i) =
     fold (after_miss layout) (ideal_queue layout image answers i)
     (misses_from layout (accesses_of layout (flat_run layout image answers i)) (ideal_queue layout image answers i))

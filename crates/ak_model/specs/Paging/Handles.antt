@@ -3,7 +3,8 @@
 use Rattle.std.specs.Prelude.{ℕ, ◌+◌, Bool, false, ◌&&◌, ◌||◌, not, [], ◌∷◌, Option, Some, None, nat_lt, ◌==◌, if◌then◌else◌}
 use Rattle.ak_core.specs.Layout.{Layout}
 use Rattle.ak_model.specs.Paging.Holdings.{Held, PageFrame, is_page_in, Place, InFrame, InHandle, Gone}
-use Rattle.ak_model.specs.Paging.Build.{given_at_build, page_of_at_build, slot_at_build, place_at_build}
+use Rattle.ak_model.specs.Paging.Pages.{pages}
+use Rattle.ak_model.specs.Paging.Build.{page_of_at_build, slot_at_build, place_at_build}
 use Rattle.ak_model.specs.Paging.Histories.{History, Change, change_of, WritesOut, Loads, Removes, MakesVa, Discards}
 use Rattle.ak_model.specs.Paging.Frames.{held}
 
@@ -12,9 +13,10 @@ abbrev pub given_after : Change → ℕ → ℕ
 given_after (WritesOut f va i k) before = before + 1
 given_after _ before = before
 
--- how many handles were given: by the build, then one by each write-out. Handles are the numbers below
+-- how many handles were given: by the build one for each page of the program, then one by each write-out. Handles are the
+-- numbers below
 abbrev pub given : Layout → History → ℕ
-given layout [] = given_at_build layout.build layout
+given layout [] = pages layout
 given layout (pair ∷ past) = given_after (change_of pair) (given layout past)
 
 -- the page in a frame, or else another
@@ -59,7 +61,7 @@ slot_after _ va i before = before
 
 -- the handle whose version a slot of a VA frame holds
 abbrev pub slot : Layout → History → ℕ → ℕ → Option ℕ
-slot layout [] va i = slot_at_build layout.build layout va i
+slot layout [] va i = slot_at_build layout va i
 slot layout (pair ∷ past) va i = slot_after (change_of pair) va i (slot layout past va i)
 
 -- the copy is gone where its handle is this one

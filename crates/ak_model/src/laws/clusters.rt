@@ -3,7 +3,7 @@ ghost use Rattle.ak_core.specs.Layout.{IsValid};
 ghost use Rattle.ak_core.specs.declared.event.Event.{Event};
 ghost use Rattle.ak_model.specs.Clusters.{after_miss, drops, queue_after, total_size};
 ghost use Rattle.ak_model.specs.Laws.{AreOut, MissesFit, QueueFits, missed_on};
-ghost use Rattle.ak_model.specs.Paging.{pages, pages_of, queue_at_build};
+ghost use Rattle.ak_model.specs.Paging.{pages, pages_of};
 ghost use Rattle.std.specs.Prelude.{List, [], drop, length, sum, ℕ, ◌++◌, ◌+◌, ◌∷◌, ◌≡◌, ◌≤◌};
 ghost use Rattle.ak_core.specs.Layout;
 
@@ -22,14 +22,13 @@ pub fn one_more_miss()
 {}
 
 /// In a valid layout, where each missed cluster is one of the layout that is out by those before it, the clusters that are in
-/// are different ones of the layout, and in a sealed build they fit the budget together; so it is after the misses of a tape
-/// that fit.
+/// are different ones of the layout that fit the budget together; so it is after the misses of a tape that fit.
 pub fn queue_fits()
     ensures missed { (layout : Layout.Layout) (misses : List ℕ)
-        → Layout.IsValid layout → AreOut layout (queue_at_build layout.build layout) misses
+        → Layout.IsValid layout → AreOut layout [] misses
         → QueueFits layout (queue_after layout misses) }
     ensures taped { (layout : Layout.Layout) (tape : List Event)
-        → Layout.IsValid layout → MissesFit layout (queue_at_build layout.build layout) tape
+        → Layout.IsValid layout → MissesFit layout [] tape
         → QueueFits layout (queue_after layout (missed_on tape)) }
 {}
 

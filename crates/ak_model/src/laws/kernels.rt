@@ -7,18 +7,18 @@ ghost use Rattle.ak_model.specs.Clusters.{is_in};
 ghost use Rattle.ak_model.specs.Control.{Control, Program, trace, turn};
 ghost use Rattle.ak_model.specs.Kernels.{Evicts, Honours, keeps_mapped};
 ghost use Rattle.ak_model.specs.Laws.{IsOrderly, MissesAreIdeal, MissesFit};
-ghost use Rattle.ak_model.specs.Paging.{History, access_walkable, cluster_at, pages, permits, queue_at_build, someone_inside};
+ghost use Rattle.ak_model.specs.Paging.{History, access_walkable, cluster_at, pages, permits, someone_inside};
 ghost use Rattle.ak_model.specs.Sound.{BreakIsForced, BrokenBy, EachTurn, Sound, queue_by};
 ghost use Rattle.ak_model.specs.Stops.{has_break, shows_stop};
 ghost use Rattle.ak_model.specs.Tapes.{FlatRuns, ProgramTurn, last_moment, program_turns, turn_at};
-ghost use Rattle.std.specs.Prelude.{List, None, Some, false, reverse, true, ℕ, ◌<◌, ◌≡◌};
+ghost use Rattle.std.specs.Prelude.{List, None, Some, [], false, reverse, true, ℕ, ◌<◌, ◌≡◌};
 ghost use Rattle.ak_core.specs.Journal;
 ghost use Rattle.ak_core.specs.Layout;
 
 /// A kernel that keeps its rules sees no stop, where each break of the program is forced.
 pub fn no_stop()
     ensures { (layout : Layout.Layout) (runs : FlatRuns) (tape : List Event) (moves : List Move) → IsValid layout
-        → MissesFit layout (queue_at_build layout.build layout) tape
+        → MissesFit layout [] tape
         → EachTurn (λ turn. λ older. BrokenBy layout runs turn older turn.event) (program_turns layout tape moves)
         → Honours layout tape moves → (trace layout tape moves).control.cause ≡ None }
 {}

@@ -6,7 +6,7 @@ ghost use Rattle.ak_model.specs.Control.{trace, turn};
 ghost use Rattle.ak_model.specs.Flat.{flat_run, is_forbidden};
 ghost use Rattle.ak_model.specs.Laws.{AreEarlier, IsDistinct, MissesFit, QueueFits, misses_at};
 ghost use Rattle.ak_model.specs.Misses.{ComesTo, MayComplete, MayFault, accesses_at, accesses_of, completed_since, entered_at, granted_since, is_among, is_kept};
-ghost use Rattle.ak_model.specs.Paging.{access_walkable, inside, queue_at_build};
+ghost use Rattle.ak_model.specs.Paging.{access_walkable, inside};
 ghost use Rattle.ak_model.specs.Sound.{AccessesAreReached, BreakIsForced, BrokenBy, EachTurn, EventsAreFlat, ReachedBy, Sound, queue_by, turns_of};
 ghost use Rattle.ak_model.specs.Tapes.{FlatRuns, ProgramTurn, last_moment, program_turns, runs_of};
 ghost use Rattle.std.specs.List.{list_all};
@@ -65,11 +65,11 @@ pub fn accesses_stay_reached()
 /// The misses of a sound journal fit: each is of a cluster that is out by the misses before it.
 pub fn sound_misses_fit()
     ensures { (image : List ℕ) (layout : Layout.Layout) (journal : Journal.Journal)
-        → Sound image layout journal → MissesFit layout (queue_at_build layout.build layout) journal.events }
+        → Sound image layout journal → MissesFit layout [] journal.events }
 {}
 
 /// At each turn of the program in a sound journal, the clusters that are in by the misses before it are different ones of the
-/// layout, and in a sealed build they fit the budget together.
+/// layout that fit the budget together.
 pub fn sound_queue_fits()
     ensures { (image : List ℕ) (layout : Layout.Layout) (journal : Journal.Journal)
         → Sound image layout journal → EachTurn (λ turn. λ older. QueueFits layout (queue_by layout older)) (turns_of layout journal) }

@@ -1,6 +1,5 @@
 // Laws on pages, frames, handles, tracking and walks, for any history.
 ghost use Rattle.ak_core.specs.Mem.{Access};
-ghost use Rattle.ak_core.specs.declared.build.Build.TheVariants.{Resident};
 ghost use Rattle.ak_core.specs.declared.event.Event.{Event};
 ghost use Rattle.ak_core.specs.declared.moves.Answer.{Answer};
 ghost use Rattle.ak_core.specs.declared.moves.Move.{Move};
@@ -86,13 +85,9 @@ pub fn lost_since()
         → (d : ℕ) → access_walkable layout (drop d past) t ≡ true → 1 ≤ lost_at layout past t }
 {}
 
-/// A move is to blame where no walk finds an access of the runtime's own, or a permitted access of the program whose page the
-/// build left in a frame.
+/// A move is to blame where no walk finds an access of the runtime's own.
 pub fn some_move_lost()
-    ensures own { (layout : Layout.Layout) (past : History) (t : Access) → IsOwnAccess layout t
-        → access_walkable layout past t ≡ false → 1 ≤ lost_at layout past t }
-    ensures resident { (layout : Layout.Layout) (past : History) (t : Access) → layout.build ≡ Resident
-        → t.page.0 < pages layout → permits layout t.page.0 t.kind ≡ true
+    ensures { (layout : Layout.Layout) (past : History) (t : Access) → IsOwnAccess layout t
         → access_walkable layout past t ≡ false → 1 ≤ lost_at layout past t }
 {}
 

@@ -7,18 +7,18 @@ ghost use Rattle.ak_model.specs.Clusters.{is_in};
 ghost use Rattle.ak_model.specs.Control.{trace};
 ghost use Rattle.ak_model.specs.Kernels.{is_mapped};
 ghost use Rattle.ak_model.specs.Laws.{BlamedIn, FaultIsToldAt, MissesFit};
-ghost use Rattle.ak_model.specs.Paging.{cluster_at, pages, place, queue_at_build};
+ghost use Rattle.ak_model.specs.Paging.{cluster_at, pages, place};
 ghost use Rattle.ak_model.specs.Sound.{BreaksAreForcedUnkept, IsStopped, Sound};
 ghost use Rattle.ak_model.specs.Stops.{shows_stop};
 ghost use Rattle.ak_model.specs.Tapes.{program_turns};
-ghost use Rattle.std.specs.Prelude.{List, Some, drop, is_some, length, true, ℕ, ◌<◌, ◌≡◌, ◌≤◌};
+ghost use Rattle.std.specs.Prelude.{List, Some, [], drop, is_some, length, true, ℕ, ◌<◌, ◌≡◌, ◌≤◌};
 ghost use Rattle.ak_core.specs.Journal;
 ghost use Rattle.ak_core.specs.Layout;
 
 /// A processor leaves with the exit of a stopped enclave only where the stop has a cause.
 pub fn stop_has_cause()
     ensures { (layout : Layout.Layout) (tape : List Event) (moves : List Move) → IsValid layout
-        → MissesFit layout (queue_at_build layout.build layout) tape
+        → MissesFit layout [] tape
         → shows_stop (trace layout tape moves).past ≡ true → is_some (trace layout tape moves).control.cause ≡ true }
 {}
 
@@ -26,7 +26,7 @@ pub fn stop_has_cause()
 /// at an access that no walk found then, or the newest turn of the program broke. And a guard inside was resumed.
 pub fn last_fault()
     ensures { (layout : Layout.Layout) (tape : List Event) (moves : List Move) → IsValid layout
-        → MissesFit layout (queue_at_build layout.build layout) tape
+        → MissesFit layout [] tape
         → FaultIsToldAt layout (program_turns layout tape moves) (trace layout tape moves) }
 {}
 
@@ -38,16 +38,16 @@ pub fn blamed_move()
     ensures broke { (image : List ℕ) (layout : Layout.Layout) (journal : Journal.Journal) (stop : Stop)
         → Sound image layout journal → journal.stop ≡ Some stop → BlamedIn layout journal stop }
     ensures needs { (image : List ℕ) (layout : Layout.Layout) (journal : Journal.Journal) (stop : Stop)
-        → IsValid layout → MissesFit layout (queue_at_build layout.build layout) journal.events
+        → IsValid layout → MissesFit layout [] journal.events
         → BreaksAreForcedUnkept image layout journal → IsStopped layout journal → journal.stop ≡ Some stop
         → BlamedIn layout journal stop }
 {}
 
-/// Each page of a cluster that is in was mapped for all that it allows at some moment before: when it was probed, or at the
-/// build. So a move is to blame where it no longer is.
+/// Each page of a cluster that is in was mapped for all that it allows at some moment before, when it was probed. So a move is
+/// to blame where it no longer is.
 pub fn in_was_mapped()
     ensures { (layout : Layout.Layout) (tape : List Event) (moves : List Move) → IsValid layout
-        → MissesFit layout (queue_at_build layout.build layout) tape
+        → MissesFit layout [] tape
         → (p : ℕ) → p < pages layout → is_in (trace layout tape moves).control.queue (cluster_at layout p) ≡ true
         → (d : ℕ) × (is_mapped layout (drop d (trace layout tape moves).past) p ≡ true) }
 {}

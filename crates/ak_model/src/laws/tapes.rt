@@ -7,7 +7,7 @@ ghost use Rattle.ak_core.specs.declared.moves.Move.{Move};
 ghost use Rattle.ak_model.specs.Control.{Control, Goes, Leaves, Program, answers, entered, interrupted_by, resumed_by, run, trace, turn};
 ghost use Rattle.ak_model.specs.Laws.{AreShown, IsAnswered, IsCounted, IsLater, MissesFit, NowFits, StackFits, TurnIsAnswered, all_but_last, breaks_by, breaks_on, calls_by, calls_now, calls_on, control_of, outputs_by, turn_with_more, with_more};
 ghost use Rattle.ak_model.specs.Misses.{ComesTo};
-ghost use Rattle.ak_model.specs.Paging.{History, queue_at_build};
+ghost use Rattle.ak_model.specs.Paging.{History};
 ghost use Rattle.ak_model.specs.Sound.{AnswersAreTraced, EachTurn, EventsAreFlat, IfCarriedOut, shown_outputs, turns_of};
 ghost use Rattle.ak_model.specs.Tapes.{is_tape, program_turns, runs_of, turn_at, turn_in, turns_of_run};
 ghost use Rattle.std.specs.Prelude.{List, None, Some, [], length, suc, true, ℕ, ◌++◌, ◌+◌, ◌∷◌, ◌≡◌, ◌≤◌};
@@ -123,7 +123,7 @@ pub fn calls_are_answered()
         → IsAnswered calls (resumed_by control control.stack) }
     ensures interrupts { (layout : Layout.Layout) (control : Control) (calls : ℕ) → IsAnswered calls control → IsAnswered calls (interrupted_by control control.now) }
     ensures always { (layout : Layout.Layout) (tape : List Event) (moves : List Move) → IsValid layout
-        → MissesFit layout (queue_at_build layout.build layout) tape
+        → MissesFit layout [] tape
         → IsAnswered (calls_by (program_turns layout tape moves)) (trace layout tape moves).control }
     ensures taken { (layout : Layout.Layout) (tape : List Event) (moves : List Move)
         → calls_by (program_turns layout tape moves) + calls_on (trace layout tape moves).control.rest ≡ calls_on tape }
@@ -133,6 +133,6 @@ pub fn calls_are_answered()
 /// to leave, and perhaps the last one of a dead enclave. (Of a valid layout and a tape that fits.)
 pub fn outputs_are_shown()
     ensures { (layout : Layout.Layout) (tape : List Event) (moves : List Move) → IsValid layout
-        → MissesFit layout (queue_at_build layout.build layout) tape
+        → MissesFit layout [] tape
         → AreShown (outputs_by (program_turns layout tape moves)) (shown_outputs (answers (trace layout tape moves))) (trace layout tape moves).control }
 {}

@@ -1,8 +1,8 @@
 -- The rows of entering and resuming over the machine's own tables are the answers of the definitions.
 use Rattle.std.proofs.Math.Path.{fun_ext}
-use Rattle.std.proofs.Common.{◌≡◌, ℕ, ◌-◌, ◌<◌, ◌≤◌, List, length, refl, ap, sym, ◌∙◌, subst, arith}
+use Rattle.std.proofs.Common.{◌≡◌, ℕ, ◌-◌, ◌<◌, ◌≤◌, List, length, refl, ap, ◌∙◌, subst, arith}
 use Rattle.std.proofs.lemmas.Bool.{and_parts, eqb-false}
-use Rattle.std.specs.Prelude.{Bool, true, false, ◌&&◌, ◌||◌, not, nat_lt, Option, Some, None, is_some, is_none, ◌==◌, if◌then◌else◌}
+use Rattle.std.specs.Prelude.{Bool, true, false, ◌&&◌, not, nat_lt, Option, Some, None, is_some, is_none, ◌==◌, if◌then◌else◌}
 use Rattle.std.specs.List.{list_any}
 use Rattle.ak_core.specs.Layout.{Layout}
 use Rattle.ak_core.specs.declared.page.Kind.{Kind}
@@ -10,7 +10,6 @@ use Rattle.ak_core.specs.declared.page.Kind.TheVariants.{Write}
 use Rattle.ak_core.specs.declared.moves.Answer.{Answer}
 use Rattle.ak_core.specs.declared.moves.Answer.TheVariants.{Ok, NoLp, Inside, TcsFault, Busy, Gp, Pending, SsaFault}
 use Rattle.ak_model.specs.Paging.Pages.{permits, all_pages, tcs_page, ssa_page}
-use Rattle.ak_model.specs.Paging.Build.{entering_walks}
 use Rattle.ak_model.specs.Paging.Histories.{History}
 use Rattle.ak_model.specs.Paging.Holdings.{PageFrame, is_page_in, Mapping}
 use Rattle.ak_model.specs.Paging.Frames.{held, blocked_at}
@@ -18,7 +17,7 @@ use Rattle.ak_model.specs.Paging.PageTable.{pte}
 use Rattle.ak_model.specs.Paging.Inside.{inside, processors, another_inside}
 use Rattle.ak_model.specs.Paging.Walk.{is_preset, flags_allow, is_in_frame, walkable, tcs_walkable}
 use Rattle.ak_model.specs.Control.ControlState.{Control}
-use Rattle.ak_model.specs.Control.Answers.{finds_tcs, finds_ssa, enter_answer, resume_answer}
+use Rattle.ak_model.specs.Control.Answers.{enter_answer, resume_answer}
 use Rattle.ak_model.specs.Tapes.ProgramTurns.{ProgramTurn}
 use Rattle.ak_model.specs.Sound.Forced.{queue_by}
 use Rattle.ak_model.proofs.Control.OrderlyMoves.{three}
@@ -80,7 +79,7 @@ flag_back true = refl
 flag_back false = refl
 
 module _ (layout : Layout) (image : List ℕ) (past : History) (control : Control) (turns : List ProgramTurn) (s : State) (lp : ℕ)
-    (h : Stands layout image (at_moment past control turns s)) (walks : entering_walks layout.build ≡ true) where
+    (h : Stands layout image (at_moment past control turns s)) where
   -- where entering finds the TCS, its bytes are those of the control state
   pub tcs_told : tcs_walkable layout past ≡ true → IsTcs (length control.stack) control.pending (tcs_bytes layout s)
   tcs_told found =
@@ -103,21 +102,18 @@ module _ (layout : Layout) (image : List ℕ) (past : History) (control : Contro
 
   outside : (x y : Answer) → (tcs_walkable layout past ≡ true → x ≡ y) →
       outside_by (nat_lt lp layout.lps) (s.processors lp).inside (tcs_in layout s) (list_any (λ q. (s.processors q).inside && not (q == lp)) (processors layout)) x
-      ≡ outside_by (nat_lt lp layout.lps) (inside past lp) (finds_tcs layout past) (another_inside layout past lp) y
+      ≡ outside_by (nat_lt lp layout.lps) (inside past lp) (tcs_walkable layout past) (another_inside layout past lp) y
   outside x y same =
       ap (λ b. outside_by (nat_lt lp layout.lps) b (tcs_in layout s) (list_any (λ q. (s.processors q).inside && not (q == lp)) (processors layout)) x) (h.tables.presence.within lp)
       ∙ ap (λ b. outside_by (nat_lt lp layout.lps) (inside past lp) b (list_any (λ q. (s.processors q).inside && not (q == lp)) (processors layout)) x) (tcs_same layout past s h.tables)
       ∙ ap (λ b. outside_by (nat_lt lp layout.lps) (inside past lp) (tcs_walkable layout past) b x) busy_same
       ∙ outside_same (nat_lt lp layout.lps) (inside past lp) (tcs_walkable layout past) (another_inside layout past lp) x y same
-      ∙ sym (ap (λ b. outside_by (nat_lt lp layout.lps) (inside past lp) (not b || tcs_walkable layout past) (another_inside layout past lp) y) walks)
 
-  area_same : (n : ℕ) → n ≤ 2 → walk_in layout s (ssa_page layout n) Write ≡ finds_ssa layout past n
-  area_same n le =
-      walk_same layout past s h.tables (ssa_page layout n) Write (area_low n le)
-      ∙ sym (ap (λ b. not b || walkable layout past (ssa_page layout n) Write) walks)
+  area_same : (n : ℕ) → n ≤ 2 → walk_in layout s (ssa_page layout n) Write ≡ walkable layout past (ssa_page layout n) Write
+  area_same n le = walk_same layout past s h.tables (ssa_page layout n) Write (area_low n le)
 
   entering : (n : ℕ) (b : Bool) → (n == 3) ≡ b → n ≤ 3 →
-      (if b then Gp else (if not (walk_in layout s (ssa_page layout n) Write) then SsaFault else Ok)) ≡ (if b then Gp else (if not (finds_ssa layout past n) then SsaFault else Ok))
+      (if b then Gp else (if not (walk_in layout s (ssa_page layout n) Write) then SsaFault else Ok)) ≡ (if b then Gp else (if not (walkable layout past (ssa_page layout n) Write) then SsaFault else Ok))
   entering n true e le = refl
   entering n false e le = let other = eqb-false n 3 e in ap (λ b. if not b then SsaFault else Ok) (area_same n (omega arith))
 
@@ -131,7 +127,7 @@ module _ (layout : Layout) (image : List ℕ) (past : History) (control : Contro
 
   resuming : (n : ℕ) (b : Bool) → (n == 0) ≡ b → n ≤ 3 →
       (if b then Gp else (if control.pending then Pending else (if not (walk_in layout s (ssa_page layout (n - 1)) Write) then SsaFault else Ok)))
-      ≡ (if b then Gp else (if control.pending then Pending else (if not (finds_ssa layout past (n - 1)) then SsaFault else Ok)))
+      ≡ (if b then Gp else (if control.pending then Pending else (if not (walkable layout past (ssa_page layout (n - 1)) Write) then SsaFault else Ok)))
   resuming n true e le = refl
   resuming n false e le = ap (λ b. if control.pending then Pending else (if not b then SsaFault else Ok)) (area_same (n - 1) (omega arith))
 

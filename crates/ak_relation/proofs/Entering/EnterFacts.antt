@@ -1,12 +1,11 @@
 -- What the answer to an entering tells: nobody is inside, and walks found the TCS and the area.
 use Rattle.std.proofs.Common.{◌≡◌, ℕ, refl, ap, sym}
 use Rattle.std.proofs.lemmas.Bool.{eqb-true, and_parts}
-use Rattle.std.specs.Prelude.{Bool, true, false, ◌&&◌, ◌||◌, not, nat_lt, Option, Some, None, is_none, ◌==◌}
+use Rattle.std.specs.Prelude.{Bool, true, false, ◌&&◌, not, nat_lt, Option, Some, None, is_none, ◌==◌}
 use Rattle.ak_core.specs.Layout.{Layout}
 use Rattle.ak_core.specs.declared.moves.Answer.TheVariants.{Ok, NoLp, Inside, TcsFault, Gp, SsaFault}
 use Rattle.ak_core.specs.declared.page.Kind.TheVariants.{Write}
 use Rattle.ak_model.specs.Paging.Pages.{tcs_page, ssa_page, permits}
-use Rattle.ak_model.specs.Paging.Build.{entering_walks}
 use Rattle.ak_model.specs.Paging.Histories.{History}
 use Rattle.ak_model.specs.Paging.Holdings.{Held, PageFrame, FreeFrame, SecsFrame, VaFrame, is_page_in}
 use Rattle.ak_model.specs.Paging.Frames.{held, blocked_at}
@@ -14,18 +13,13 @@ use Rattle.ak_model.specs.Paging.PageTable.{pte}
 use Rattle.ak_model.specs.Paging.Inside.{inside, someone_inside}
 use Rattle.ak_model.specs.Paging.Walk.{is_preset, flags_allow, is_in_frame, walkable, tcs_walkable}
 use Rattle.ak_model.specs.Control.ControlState.{Control, cssa}
-use Rattle.ak_model.specs.Control.Answers.{finds_tcs, finds_ssa, enter_answer}
+use Rattle.ak_model.specs.Control.Answers.{enter_answer}
 use Rattle.ak_model.proofs.Paging.SomeoneInside.{other, outside_ok}
 
 -- a refusal that did not hold
 pub not_false : (b : Bool) → not b ≡ false → b ≡ true
 not_false true h = refl
 not_false false h = absurd (cc)
-
--- what a walk found
-pub finds : (walks found : Bool) → walks ≡ true → (not walks || found) ≡ true → found ≡ true
-finds true found e h = h
-finds false found e h = absurd (cc)
 
 -- a frame that holds the page
 pub holds_is : (h : Held) (p : ℕ) → is_page_in h p ≡ true → h ≡ PageFrame p
@@ -60,17 +54,17 @@ pub record Found (layout : Layout) (past : History) (control : Control) (lp : �
   pub area_frame : IsOpenFrame layout past (pte layout past (ssa_page layout (cssa control))).frame (ssa_page layout (cssa control))
 
 -- what the answer tells
-pub enter_found : (layout : Layout) (past : History) (control : Control) (lp : ℕ) → entering_walks layout.build ≡ true → enter_answer layout past control lp ≡ Ok →
+pub enter_found : (layout : Layout) (past : History) (control : Control) (lp : ℕ) → enter_answer layout past control lp ≡ Ok →
     Found layout past control lp
-enter_found layout past control lp walks h =
+enter_found layout past control lp h =
     let w = other (not (nat_lt lp layout.lps)) NoLp _ Ok (λ e. cc) h in
     let x = other (inside past lp) Inside _ Ok (λ e. cc) w.1 in
-    let y = other (not (finds_tcs layout past)) TcsFault _ Ok (λ e. cc) x.1 in
+    let y = other (not (tcs_walkable layout past)) TcsFault _ Ok (λ e. cc) x.1 in
     let out = outside_ok layout past lp _ h in
     let g = other (cssa control == 3) Gp _ Ok (λ e. cc) out.2 in
-    let s = other (not (finds_ssa layout past (cssa control))) SsaFault _ Ok (λ e. cc) g.1 in
-    let tcs = finds (entering_walks layout.build) (tcs_walkable layout past) walks (not_false (finds_tcs layout past) y.0) in
-    let area = finds (entering_walks layout.build) (walkable layout past (ssa_page layout (cssa control)) Write) walks (not_false (finds_ssa layout past (cssa control)) s.0) in
+    let s = other (not (walkable layout past (ssa_page layout (cssa control)) Write)) SsaFault _ Ok (λ e. cc) g.1 in
+    let tcs = not_false (tcs_walkable layout past) y.0 in
+    let area = not_false (walkable layout past (ssa_page layout (cssa control)) Write) s.0 in
     let a = and_parts (is_preset (pte layout past (tcs_page layout)).flags) (is_in_frame layout past (tcs_page layout) (pte layout past (tcs_page layout)).frame) tcs in
     let b = and_parts (permits layout (ssa_page layout (cssa control)) Write) (flags_allow (pte layout past (ssa_page layout (cssa control))).flags Write && is_in_frame layout past (ssa_page layout (cssa control)) (pte layout past (ssa_page layout (cssa control))).frame) area in
     let c = and_parts (flags_allow (pte layout past (ssa_page layout (cssa control))).flags Write) (is_in_frame layout past (ssa_page layout (cssa control)) (pte layout past (ssa_page layout (cssa control))).frame) b.1 in

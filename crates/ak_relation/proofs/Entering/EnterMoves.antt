@@ -6,7 +6,6 @@ use Rattle.ak_core.specs.declared.page.Lp.{Lp}
 use Rattle.ak_core.specs.declared.moves.Move.TheVariants.{Eenter, Eresume}
 use Rattle.ak_core.specs.declared.moves.Answer.{Answer}
 use Rattle.ak_core.specs.declared.moves.Answer.TheVariants.{Ok, Gp}
-use Rattle.ak_model.specs.Paging.Build.{entering_walks}
 use Rattle.ak_model.specs.Control.ControlState.{Saved, Control, cssa}
 use Rattle.ak_model.specs.Control.Answers.{enter_answer, resume_answer}
 use Rattle.ak_model.specs.Control.Entering.{on_ok, entered, resumed_by}
@@ -31,15 +30,15 @@ pub refused_stays : (a : Answer) (control next : Control) → is_done a ≡ fals
 refused_stays Ok control next undone = absurd (cc)
 refused_stays _ control next undone = refl
 
-module _ (layout : Layout) (walks : entering_walks layout.build ≡ true) (old : State) (lp : Lp) where
+module _ (layout : Layout) (old : State) (lp : Lp) where
   -- ---- Entering
 
   -- an entering that its row answers Ok
   pub enter_moves : (new : State) (v : ℕ) → v < 2 ^ 64 → enter_row layout old lp.0 ≡ Ok → EntersAt layout lp.0 (saved_in layout old) v old new → IsMove layout old new (Eenter lp v) Ok None
   enter_moves new v word row e image past control turns h =
-      let ok : enter_answer layout past control lp.0 ≡ Ok = sym (enter_row-answer layout image past control turns old lp.0 h walks) ∙ row in
-      let found = enter_found layout past control lp.0 walks ok in
-      let tcs = tcs_told layout image past control turns old lp.0 h walks found.tcs in
+      let ok : enter_answer layout past control lp.0 ≡ Ok = sym (enter_row-answer layout image past control turns old lp.0 h) ∙ row in
+      let found = enter_found layout past control lp.0 ok in
+      let tcs = tcs_told layout image past control turns old lp.0 h found.tcs in
       record {
         control = entered control v;
         turns = turns;
@@ -50,13 +49,13 @@ module _ (layout : Layout) (walks : entering_walks layout.build ≡ true) (old :
           due = λ later later_ok. later_ok;
         };
         told = refl;
-        stands = entered_stands layout image past control turns old new lp v h walks ok (subst (λ n. EntersAt layout lp.0 n v old new) tcs.saved_is e) word;
+        stands = entered_stands layout image past control turns old new lp v h ok (subst (λ n. EntersAt layout lp.0 n v old new) tcs.saved_is e) word;
       }
 
   -- an entering that is refused
   pub enter_refused : (v : ℕ) (a : Answer) → is_done a ≡ false → enter_row layout old lp.0 ≡ a → IsMove layout old old (Eenter lp v) a None
   enter_refused v a undone row image past control turns h =
-      let answered : enter_answer layout past control lp.0 ≡ a = sym (enter_row-answer layout image past control turns old lp.0 h walks) ∙ row in
+      let answered : enter_answer layout past control lp.0 ≡ a = sym (enter_row-answer layout image past control turns old lp.0 h) ∙ row in
       record {
         control = control;
         turns = turns;
@@ -78,7 +77,7 @@ module _ (layout : Layout) (walks : entering_walks layout.build ≡ true) (old :
       by_stack control.stack refl
     where
       ok : resume_answer layout past control lp.0 ≡ Ok
-      ok = sym (resume_row-answer layout image past control turns old lp.0 h walks) ∙ row
+      ok = sym (resume_row-answer layout image past control turns old lp.0 h) ∙ row
 
       by_stack : (stack : List Saved) → control.stack ≡ stack → GoesTo layout image (MoveFollows layout past (Eresume lp) Ok) (at_moment past control turns old) ((Eresume lp, Ok) ∷ past) new None
       by_stack [] stacked =
@@ -87,8 +86,8 @@ module _ (layout : Layout) (walks : entering_walks layout.build ≡ true) (old :
       by_stack (one ∷ older) stacked =
           let size : length control.stack ≡ length (one ∷ older) = ap length stacked in
           let below : cssa control - 1 ≡ length older = omega arith in
-          let found : FoundAgain layout past control (length older) = subst (FoundAgain layout past control) below (resume_found layout past control lp.0 walks ok) in
-          let tcs = tcs_told layout image past control turns old lp.0 h walks found.tcs in
+          let found : FoundAgain layout past control (length older) = subst (FoundAgain layout past control) below (resume_found layout past control lp.0 ok) in
+          let tcs = tcs_told layout image past control turns old lp.0 h found.tcs in
           let resumes : ResumesAt layout lp.0 (length older) old new = subst (λ n. ResumesAt layout lp.0 n old new) (ap (λ n. n - 1) tcs.saved_is ∙ below) e in
           record {
             control = record control { stack = older; now = Some one.context };
@@ -106,7 +105,7 @@ module _ (layout : Layout) (walks : entering_walks layout.build ≡ true) (old :
   -- a resuming that is refused
   pub resume_refused : (a : Answer) → is_done a ≡ false → resume_row layout old lp.0 ≡ a → IsMove layout old old (Eresume lp) a None
   resume_refused a undone row image past control turns h =
-      let answered : resume_answer layout past control lp.0 ≡ a = sym (resume_row-answer layout image past control turns old lp.0 h walks) ∙ row in
+      let answered : resume_answer layout past control lp.0 ≡ a = sym (resume_row-answer layout image past control turns old lp.0 h) ∙ row in
       record {
         control = control;
         turns = turns;

@@ -8,7 +8,6 @@ use Rattle.ak_core.specs.declared.page.Lp.{Lp}
 use Rattle.ak_core.specs.declared.moves.Move.TheVariants.{Eenter}
 use Rattle.ak_core.specs.declared.moves.Answer.TheVariants.{Ok, Gp}
 use Rattle.ak_model.specs.Paging.Pages.{pages, tcs_page, ssa_page, state_page}
-use Rattle.ak_model.specs.Paging.Build.{entering_walks}
 use Rattle.ak_model.specs.Paging.Histories.{History}
 use Rattle.ak_model.specs.Paging.Holdings.{PageFrame, Place, InFrame, InHandle, Gone, Mapping}
 use Rattle.ak_model.specs.Paging.Frames.{held}
@@ -54,7 +53,7 @@ last_entered (saved ∷ []) k v = refl
 last_entered (saved ∷ next ∷ older) k v = last_entered (next ∷ older) k v
 
 module _ (layout : Layout) (image : List ℕ) (past : History) (control : Control) (turns : List ProgramTurn) (old new : State) (lp : Lp) (v : ℕ)
-    (h : Stands layout image (at_moment past control turns old)) (walks : entering_walks layout.build ≡ true)
+    (h : Stands layout image (at_moment past control turns old))
     (ok : enter_answer layout past control lp.0 ≡ Ok) (e : EntersAt layout lp.0 (cssa control) v old new) where
   -- the history after the entering
   abbrev pub after : History
@@ -62,7 +61,7 @@ module _ (layout : Layout) (image : List ℕ) (past : History) (control : Contro
 
   -- what the entering found
   pub found : Found layout past control lp.0
-  found = enter_found layout past control lp.0 walks ok
+  found = enter_found layout past control lp.0 ok
 
   -- no context was inside
   pub empty_now : control.now ≡ None

@@ -9,7 +9,6 @@ use Rattle.ak_core.specs.declared.page.Kind.TheVariants.{Write}
 use Rattle.ak_core.specs.declared.moves.Move.TheVariants.{Eenter}
 use Rattle.ak_core.specs.declared.moves.Answer.TheVariants.{Ok, Gp}
 use Rattle.ak_model.specs.Paging.Pages.{tcs_page, ssa_page}
-use Rattle.ak_model.specs.Paging.Build.{entering_walks}
 use Rattle.ak_model.specs.Paging.Histories.{History, first}
 use Rattle.ak_model.specs.Paging.Holdings.{VaFrame, PageFrame}
 use Rattle.ak_model.specs.Paging.Frames.{held, blocked_at}
@@ -50,7 +49,7 @@ use Rattle.ak_model.proofs.Paging.OpenFrames.{known-present}
 use Rattle.ak_relation.proofs.Entering.EnteredPages.{last_entered, found, empty_now, nobody, tcs_open, area_open, breaks, all_pages_stand}
 
 module _ (layout : Layout) (image : List ℕ) (past : History) (control : Control) (turns : List ProgramTurn) (old new : State) (lp : Lp) (v : ℕ)
-    (h : Stands layout image (at_moment past control turns old)) (walks : entering_walks layout.build ≡ true)
+    (h : Stands layout image (at_moment past control turns old))
     (ok : enter_answer layout past control lp.0 ≡ Ok) (e : EntersAt layout lp.0 (cssa control) v old new) (word : v < 2 ^ 64) where
   -- the history after the entering
   abbrev here : History
@@ -70,8 +69,8 @@ module _ (layout : Layout) (image : List ℕ) (past : History) (control : Contro
         fresh = h.laws.fresh;
         taken = h.laws.taken;
         earlier = earlier_more (length past) (length here) turns (omega arith) h.laws.earlier;
-        answered = entered-answered layout control _ h.laws.answered v (empty_now layout image past control turns old new lp v h walks ok e);
-        going = λ live. h.laws.going (ap (λ b. not (is_live control.phase) || b) (ap (is_last control.stack) (empty_now layout image past control turns old new lp v h walks ok e) ∙ sym (last_entered control.stack (cssa control) v)) ∙ live);
+        answered = entered-answered layout control _ h.laws.answered v (empty_now layout image past control turns old new lp v h ok e);
+        going = λ live. h.laws.going (ap (λ b. not (is_live control.phase) || b) (ap (is_last control.stack) (empty_now layout image past control turns old new lp v h ok e) ∙ sym (last_entered control.stack (cssa control) v)) ∙ live);
       }
 
   -- ---- Tables
@@ -83,7 +82,7 @@ module _ (layout : Layout) (image : List ℕ) (past : History) (control : Contro
   va_apart : (va : ℕ) → held layout past va ≡ VaFrame → (b : Bool) → (va == (old.table (tcs_page layout)).frame) ≡ b → b ≡ false
   va_apart va k false t = refl
   va_apart va k true t =
-      let o = tcs_open layout image past control turns old new lp v h walks ok e in
+      let o = tcs_open layout image past control turns old new lp v h ok e in
       absurd (let clash : VaFrame ≡ PageFrame (tcs_page layout) = sym k ∙ ap (held layout past) (eqb-true va (old.table (tcs_page layout)).frame t) ∙ o.holds in cc)
 
   tables : TablesStand layout here new
@@ -121,9 +120,9 @@ module _ (layout : Layout) (image : List ℕ) (past : History) (control : Contro
 
   staying : IsStaying layout (runs_at layout image control) here (entered control v) turns lp.0 (new.processors lp.0) (length past + 1)
   staying =
-      let t = tcs_open layout image past control turns old new lp v h walks ok e in
-      let a = area_open layout image past control turns old new lp v h walks ok e in
-      let f = found layout image past control turns old new lp v h walks ok e in
+      let t = tcs_open layout image past control turns old new lp v h ok e in
+      let a = area_open layout image past control turns old new lp v h ok e in
+      let f = found layout image past control turns old new lp v h ok e in
       record {
         fills = subst (AreReached layout here (length past + 1)) (sym e.flushed) tt;
         caches = λ x. ap (λ fills. is_filled fills x) e.flushed ∙ sym (ap (λ g. is_among g x) granted);
@@ -144,14 +143,14 @@ module _ (layout : Layout) (image : List ℕ) (past : History) (control : Contro
   stays q true d =
       subst (λ x. StaysBy layout (runs_at layout image control) here (entered control v) turns x (new.processors x) (Some (length past + 1))) (sym (eqb-true q lp.0 d)) staying
   stays q false d =
-      let none = nobody layout image past control turns old new lp v h walks ok e q in
+      let none = nobody layout image past control turns old new lp v h ok e q in
       subst (StaysBy layout (runs_at layout image control) here (entered control v) turns q (new.processors q)) (sym none)
       (ap (λ x. x.fills) (e.others q d) ∙ subst (StaysBy layout (runs_at layout image control) past control turns q (old.processors q)) none (h.reached.stays q))
 
   registers : (q : ℕ) (b : Bool) → (q == lp.0) ≡ b → (new.processors q).inside ≡ true → GivesNow layout control.phase h.bytes.flat (Some (Enter (cssa control) v)) (new.processors q).regs
   registers q true d i = ap (λ x. (new.processors x).regs) (eqb-true q lp.0 d) ∙ e.regs
   registers q false d i =
-      absurd (let none : is_some (since past q) ≡ false = ap is_some (nobody layout image past control turns old new lp v h walks ok e q) in
+      absurd (let none : is_some (since past q) ≡ false = ap is_some (nobody layout image past control turns old new lp v h ok e q) in
       let there : is_some (since past q) ≡ true = sym (h.tables.presence.within q) ∙ sym (ap (λ x. x.inside) (e.others q d)) ∙ i in cc)
 
   -- the relation after the entering
@@ -168,12 +167,12 @@ module _ (layout : Layout) (image : List ℕ) (past : History) (control : Contro
       flat = h.bytes.flat;
       program = subst (λ o. IsAtBy o layout image control.returned control.count h.bytes.flat)
           (other_now control.phase control.stack control.now (Some (Enter (cssa control) v))
-          (ap owing_running (empty_now layout image past control turns old new lp v h walks ok e)) refl) h.bytes.program;
-      pages = all_pages_stand layout image past control turns old new lp v h walks ok e;
+          (ap owing_running (empty_now layout image past control turns old new lp v h ok e)) refl) h.bytes.program;
+      pages = all_pages_stand layout image past control turns old new lp v h ok e;
       registers = record { given = λ q i. registers q (q == lp.0) refl i };
     };
     reached = record {
       stays = λ q. stays q (q == lp.0) refl;
-      breaks = breaks layout image past control turns old new lp v h walks ok e (runs_at layout image control) control.stack h.reached.breaks;
+      breaks = breaks layout image past control turns old new lp v h ok e (runs_at layout image control) control.stack h.reached.breaks;
     };
   }

@@ -6,17 +6,16 @@ use Rattle.ak_core.specs.Layout.{Layout}
 use Rattle.ak_core.specs.declared.moves.Answer.TheVariants.{Ok, NoLp, Inside, TcsFault, Gp, Pending, SsaFault}
 use Rattle.ak_core.specs.declared.page.Kind.TheVariants.{Write}
 use Rattle.ak_model.specs.Paging.Pages.{tcs_page, ssa_page, permits}
-use Rattle.ak_model.specs.Paging.Build.{entering_walks}
 use Rattle.ak_model.specs.Paging.Histories.{History}
 use Rattle.ak_model.specs.Paging.PageTable.{pte}
 use Rattle.ak_model.specs.Paging.Inside.{inside, someone_inside}
 use Rattle.ak_model.specs.Paging.Walk.{is_preset, flags_allow, is_in_frame, walkable, tcs_walkable}
 use Rattle.ak_model.specs.Control.ControlState.{Context, Reason, Interrupted, Cleared, Raised, Denied, Missed, Broke, Faulted, Saved, Control, cssa}
-use Rattle.ak_model.specs.Control.Answers.{finds_tcs, finds_ssa, resume_answer}
+use Rattle.ak_model.specs.Control.Answers.{resume_answer}
 use Rattle.ak_model.specs.Laws.Orderly.{refuses_by}
 use Rattle.ak_model.proofs.Paging.SomeoneInside.{other, outside_ok}
 use Rattle.ak_relation.specs.Program.Turns.{ends_by, is_last_call, is_last}
-use Rattle.ak_relation.proofs.Entering.EnterFacts.{not_false, finds, IsOpenFrame, frame_is}
+use Rattle.ak_relation.proofs.Entering.EnterFacts.{not_false, IsOpenFrame, frame_is}
 
 -- what a resuming found, with so many areas below its own
 pub record FoundAgain (layout : Layout) (past : History) (control : Control) (below : ℕ) : Type 0 where
@@ -28,19 +27,19 @@ pub record FoundAgain (layout : Layout) (past : History) (control : Control) (be
   pub area_frame : IsOpenFrame layout past (pte layout past (ssa_page layout below)).frame (ssa_page layout below)
 
 -- what the answer tells
-pub resume_found : (layout : Layout) (past : History) (control : Control) (lp : ℕ) → entering_walks layout.build ≡ true → resume_answer layout past control lp ≡ Ok →
+pub resume_found : (layout : Layout) (past : History) (control : Control) (lp : ℕ) → resume_answer layout past control lp ≡ Ok →
     FoundAgain layout past control (cssa control - 1)
-resume_found layout past control lp walks h =
+resume_found layout past control lp h =
     let w = other (not (nat_lt lp layout.lps)) NoLp _ Ok (λ e. cc) h in
     let x = other (inside past lp) Inside _ Ok (λ e. cc) w.1 in
-    let y = other (not (finds_tcs layout past)) TcsFault _ Ok (λ e. cc) x.1 in
+    let y = other (not (tcs_walkable layout past)) TcsFault _ Ok (λ e. cc) x.1 in
     let out = outside_ok layout past lp _ h in
     let g = other (cssa control == 0) Gp _ Ok (λ e. cc) out.2 in
     let p = other control.pending Pending _ Ok (λ e. cc) g.1 in
-    let s = other (not (finds_ssa layout past (cssa control - 1))) SsaFault _ Ok (λ e. cc) p.1 in
-    let tcs = finds (entering_walks layout.build) (tcs_walkable layout past) walks (not_false (finds_tcs layout past) y.0) in
     let page = ssa_page layout (cssa control - 1) in
-    let area = finds (entering_walks layout.build) (walkable layout past page Write) walks (not_false (finds_ssa layout past (cssa control - 1)) s.0) in
+    let s = other (not (walkable layout past page Write)) SsaFault _ Ok (λ e. cc) p.1 in
+    let tcs = not_false (tcs_walkable layout past) y.0 in
+    let area = not_false (walkable layout past page Write) s.0 in
     let a = and_parts (is_preset (pte layout past (tcs_page layout)).flags) (is_in_frame layout past (tcs_page layout) (pte layout past (tcs_page layout)).frame) tcs in
     let b = and_parts (permits layout page Write) (flags_allow (pte layout past page).flags Write && is_in_frame layout past page (pte layout past page).frame) area in
     let c = and_parts (flags_allow (pte layout past page).flags Write) (is_in_frame layout past page (pte layout past page).frame) b.1 in

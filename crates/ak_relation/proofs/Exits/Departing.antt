@@ -21,7 +21,6 @@ use Rattle.ak_model.specs.Control.RuntimeTurn.{save, shown_fault}
 use Rattle.ak_model.specs.Tapes.ProgramTurns.{ProgramTurn}
 use Rattle.ak_model.specs.Sound.Forced.{queue_by}
 use Rattle.ak_model.specs.Laws.Orderly.{is_live, refuses_by, miss_of, after_miss_if, ReasonFits, IsOrderly, ServedBy}
-use Rattle.ak_model.specs.Paging.Build.{queue_at_build}
 use Rattle.ak_model.specs.Tapes.LastMoment.{FlatRuns}
 use Rattle.ak_model.specs.Sound.Events.{TrapIsForced}
 use Rattle.ak_model.specs.Control.EventTurn.{count_of}
@@ -56,7 +55,7 @@ pub record MayDepart (layout : Layout) (runs : FlatRuns) (lp : ℕ) (past : Hist
   pub fits : ReasonFits layout control.phase control.queue Program reason
   pub noted : IsNoted layout control.queue Program reason cause
   pub turn_stands : TurnStands layout runs (turn_with lp past control event) turns
-  pub missed : MissesFit layout (queue_past layout (queue_at_build layout.build layout) (events_by turns)) (event ∷ [])
+  pub missed : MissesFit layout (queue_past layout [] (events_by turns)) (event ∷ [])
   pub forced : TrapIsForced layout runs event
   pub served : after_miss_if layout control.queue (miss_of reason) ≡ queue_by layout (turn_with lp past control event ∷ turns)
   pub going : ends_by reason ≡ false → IsGoing control.count (events_by (turn_with lp past control event ∷ turns))

@@ -5,7 +5,6 @@ use Rattle.ak_core.specs.Layout.{Layout, IsValid}
 use Rattle.ak_core.specs.Mem.{Access}
 use Rattle.ak_core.specs.declared.event.Event.{Event}
 use Rattle.ak_core.specs.declared.event.Event.TheVariants.{Call, Miss, Trap, Break}
-use Rattle.ak_model.specs.Paging.Build.{queue_at_build}
 use Rattle.ak_model.specs.Paging.Pages.{cluster_at}
 use Rattle.ak_model.specs.Clusters.Queue.{after_miss, is_in}
 use Rattle.ak_model.specs.Paging.Histories.{History}
@@ -46,10 +45,10 @@ module _ (layout : Layout) (valid : IsValid layout) (runs : FlatRuns) where
   by_event turn older (Some (Miss i c)) e = sym (with_miss layout valid runs turn older c (ap missed_by e))
 
   -- the queue past the events of turns is the queue by the turns
-  pub past_turns : (turns : List ProgramTurn) → queue_past layout (queue_at_build layout.build layout) (events_by turns) ≡ queue_by layout turns
+  pub past_turns : (turns : List ProgramTurn) → queue_past layout [] (events_by turns) ≡ queue_by layout turns
   past_turns [] = refl
   past_turns (turn ∷ older) =
-      past_more (queue_at_build layout.build layout) (events_by older) (listed turn.event)
+      past_more [] (events_by older) (listed turn.event)
       ∙ ap (λ queue. queue_past layout queue (listed turn.event)) (past_turns older) ∙ by_event turn older turn.event refl
 
 -- a program that goes on does so after a miss

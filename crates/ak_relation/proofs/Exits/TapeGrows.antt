@@ -6,7 +6,6 @@ use Rattle.std.specs.Prelude.{Bool, true, false, ◌&&◌, option_and_then, Some
 use Rattle.ak_core.specs.Layout.{Layout}
 use Rattle.ak_core.specs.declared.event.Event.{Event}
 use Rattle.ak_core.specs.declared.event.Event.TheVariants.{Call, Miss, Trap, Break}
-use Rattle.ak_model.specs.Paging.Build.{queue_at_build}
 use Rattle.ak_model.specs.Clusters.Queue.{after_miss}
 use Rattle.ak_model.specs.Tapes.Tape.{may_precede, may_follow, is_tape}
 use Rattle.ak_model.specs.Tapes.LastMoment.{FlatRuns}
@@ -78,7 +77,7 @@ traps_more layout runs (event ∷ events) e h last = (h.0, traps_more layout run
 -- ---- One more event
 
 module _ (layout : Layout) (runs : FlatRuns) (count : ℕ) (events : List Event) (e : Event) (at : count_of e ≡ count) (going : IsGoing count events)
-    (fits : MissesFit layout (queue_past layout (queue_at_build layout.build layout) events) (e ∷ [])) (forced : TrapIsForced layout runs e) (h : TapeStands layout runs count events) where
+    (fits : MissesFit layout (queue_past layout [] events) (e ∷ [])) (forced : TrapIsForced layout runs e) (h : TapeStands layout runs count events) where
   below : (i : ℕ) → i < count → option_and_then completed_by (ending_at layout runs i) ≡ Some (call_at (events ++ e ∷ []) i)
   below i lt =
       let other : (count_of e == i) ≡ false = let n = count_of e in grind (arith, nat_tests) in

@@ -26,7 +26,7 @@ use Rattle.ak_relation.specs.Program.Reaching.{is_filled, AreReached, granted_to
 use Rattle.ak_relation.specs.Premises.EnterRows.{walk_in}
 use Rattle.ak_relation.specs.Relation.Stands.{runs_at}
 use Rattle.ak_tlb.specs.Fills.{Fill, accesses_of}
-use Rattle.ak_relation.specs.Premises.Faulting.{AreWalked, Traps, Faults}
+use Rattle.ak_relation.specs.Premises.Faulting.{AreWalked, Traps, IsNext, Faults}
 use Rattle.ak_model.proofs.Misses.EqualAccesses.{access_is, access_self}
 use Rattle.ak_relation.proofs.Program.Completing.{filled_reached}
 use Rattle.ak_relation.proofs.Entering.EnterAnswers.{walk_same}
@@ -130,35 +130,45 @@ module _ (layout : Layout) (image : List ℕ) (past : History) (control : Contro
       subst (λ accesses. list_all (reached layout (turn_with lp past control event)) (permitted_accesses layout accesses) ≡ true) (sym line_is)
       (all_among (reached layout (turn_with lp past control event)) (permitted_accesses layout (line layout flat).accesses) (λ u e. reached_at t.walked u t.found (t.covers u e)))
 
+  -- the accesses before the next one may succeed
+  pub next_succeed : (access : Access) (n : IsNext layout s fills flat access) →
+      list_all (may_succeed layout (turn_with lp past control event)) (take n.number (accesses_at layout (runs_at layout image control) (turn_with lp past control event))) ≡ true
+  next_succeed access n =
+      subst (λ accesses. list_all (may_succeed layout (turn_with lp past control event)) (take n.number accesses) ≡ true) (sym line_is)
+      (all_among (may_succeed layout (turn_with lp past control event)) (take n.number (line layout flat).accesses) succeeds)
+    where
+      succeeds : (t : Access) → is_among (take n.number (line layout flat).accesses) t ≡ true → may_succeed layout (turn_with lp past control event) t ≡ true
+      succeeds t e =
+          let allowed = among_all (λ u. not (is_forbidden layout u)) (take n.number (line layout flat).accesses) t n.allowed e in
+          let was = reached_at n.walked t n.found (n.covers t e) in rw (allowed, was) refl
+
+  -- the next access stands at its place of the turn's line
+  pub next_stands : (access : Access) (n : IsNext layout s fills flat access) → slice_get (accesses_at layout (runs_at layout image control) (turn_with lp past control event)) n.number ≡ Some access
+  next_stands access n = ap (λ accesses. slice_get accesses n.number) line_is ∙ n.stands
+
   -- the access that faults may do so, and is not kept
   pub faults_unkept : (access : Access) → CachesGranted fills (granted_to layout (runs_at layout image control) lp past control turns) → Faults layout s fills flat access →
       MayFaultUnkept layout (runs_at layout image control) (turn_with lp past control event) turns access
   faults_unkept access caches f =
       record {
         may_fault = record {
-          place = f.number;
-          stands = ap (λ accesses. slice_get accesses f.number) line_is ∙ f.stands;
+          place = f.next.number;
+          stands = next_stands access f.next;
           permitted = f.permitted;
           unmapped = sym (walk_same layout past s h access.page.0 access.kind (permits_low layout access.page.0 access.kind (not-false (permits layout access.page.0 access.kind) f.permitted))) ∙ f.unmapped;
-          earlier = subst (λ accesses. list_all (may_succeed layout (turn_with lp past control event)) (take f.number accesses) ≡ true) (sym line_is)
-              (all_among (may_succeed layout (turn_with lp past control event)) (take f.number (line layout flat).accesses) succeeds);
+          earlier = next_succeed access f.next;
         };
-        unkept = subst (λ accesses. is_kept (granted ++ take f.number accesses) access ≡ false) (sym line_is)
-            (kept_same (granted ++ take f.number (line layout flat).accesses) (accesses_of fills ++ take f.number (line layout flat).accesses) same access ∙ f.unkept);
+        unkept = subst (λ accesses. is_kept (granted ++ take f.next.number accesses) access ≡ false) (sym line_is)
+            (kept_same (granted ++ take f.next.number (line layout flat).accesses) (accesses_of fills ++ take f.next.number (line layout flat).accesses) same access ∙ f.unkept);
       }
     where
       granted : List Access
       granted = granted_since layout (runs_at layout image control) (turn_with lp past control event) turns
 
-      succeeds : (t : Access) → is_among (take f.number (line layout flat).accesses) t ≡ true → may_succeed layout (turn_with lp past control event) t ≡ true
-      succeeds t e =
-          let allowed = among_all (λ u. not (is_forbidden layout u)) (take f.number (line layout flat).accesses) t f.allowed e in
-          let was = reached_at f.walked t f.found (f.covers t e) in rw (allowed, was) refl
-
-      same : (t : Access) → is_among (granted ++ take f.number (line layout flat).accesses) t ≡ is_among (accesses_of fills ++ take f.number (line layout flat).accesses) t
+      same : (t : Access) → is_among (granted ++ take f.next.number (line layout flat).accesses) t ≡ is_among (accesses_of fills ++ take f.next.number (line layout flat).accesses) t
       same t =
-          list_any-append (same_access t) granted (take f.number (line layout flat).accesses)
-          ∙ ap (λ b. b || is_among (take f.number (line layout flat).accesses) t)
+          list_any-append (same_access t) granted (take f.next.number (line layout flat).accesses)
+          ∙ ap (λ b. b || is_among (take f.next.number (line layout flat).accesses) t)
           (ap (λ g. is_among g t) (granted-same layout (runs_at layout image control) (turn_with lp past control event) (turn_at lp past control) turns refl refl)
           ∙ sym (caches t) ∙ filled_among fills t)
-          ∙ sym (list_any-append (same_access t) (accesses_of fills) (take f.number (line layout flat).accesses))
+          ∙ sym (list_any-append (same_access t) (accesses_of fills) (take f.next.number (line layout flat).accesses))

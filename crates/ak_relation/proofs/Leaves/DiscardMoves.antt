@@ -1,5 +1,5 @@
 -- The discarding of a handle as a move, and the reading and refusing of the page table.
-use Rattle.std.proofs.Common.{◌≡◌, ◌⊎◌, inl, inr, ℕ, ◌<◌, refl, ap, sym, ◌∙◌}
+use Rattle.std.proofs.Common.{◌≡◌, ◌⊎◌, inl, inr, ℕ, refl, ap, sym, ◌∙◌}
 use Rattle.std.proofs.lemmas.Bool.{and_parts, ltb-true}
 use Rattle.std.specs.Prelude.{Bool, true, false, ◌&&◌, ◌||◌, not, nat_lt, option_map, None, ◌==◌, if◌then◌else◌}
 use Rattle.ak_core.specs.Layout.{Layout}
@@ -10,7 +10,6 @@ use Rattle.ak_core.specs.declared.page.Flags.{Flags}
 use Rattle.ak_core.specs.declared.moves.Move.TheVariants.{SetPte, ReadPte, Discard}
 use Rattle.ak_core.specs.declared.moves.Answer.TheVariants.{Ok, NoPage, NoHandle}
 use Rattle.ak_model.specs.Paging.Pages.{all_pages}
-use Rattle.ak_model.specs.Paging.Build.{known_pages}
 use Rattle.ak_model.specs.Paging.Histories.{History}
 use Rattle.ak_model.specs.Paging.Holdings.{Place, InFrame, InHandle, Gone}
 use Rattle.ak_model.specs.Paging.Handles.{given, page_of, discarded, live, gone_if, place}
@@ -79,21 +78,21 @@ module _ (layout : Layout) (old : State) where
   -- ---- The page table
 
   -- the reading of an entry
-  pub read_pte_moves : (p : Page) → nat_lt p.0 (known_pages layout.build layout) ≡ true → p.0 < all_pages layout → IsMove layout old old (ReadPte p) (pte_answer (old.table p.0)) None
-  read_pte_moves p known low =
+  pub read_pte_moves : (p : Page) → nat_lt p.0 (all_pages layout) ≡ true → IsMove layout old old (ReadPte p) (pte_answer (old.table p.0)) None
+  read_pte_moves p known =
       quiet_moves layout old old (ReadPte p) (pte_answer (old.table p.0)) refl
-      (λ past control tables. ap (λ b. if b then pte_answer (pte layout past p.0) else NoPage) known ∙ ap pte_answer (sym (tables.mapping.mapped p.0 low)))
+      (λ past control tables. ap (λ b. if b then pte_answer (pte layout past p.0) else NoPage) known ∙ ap pte_answer (sym (tables.mapping.mapped p.0 (ltb-true p.0 (all_pages layout) known))))
       (λ past inside tables. refused_keeps layout past (ReadPte p) (pte_answer (old.table p.0)) old refl tables)
 
   -- a reading of no page
-  pub read_pte_refused : (p : Page) → nat_lt p.0 (known_pages layout.build layout) ≡ false → IsMove layout old old (ReadPte p) NoPage None
+  pub read_pte_refused : (p : Page) → nat_lt p.0 (all_pages layout) ≡ false → IsMove layout old old (ReadPte p) NoPage None
   read_pte_refused p unknown =
       quiet_moves layout old old (ReadPte p) NoPage refl
       (λ past control tables. ap (λ b. if b then pte_answer (pte layout past p.0) else NoPage) unknown)
       (λ past inside tables. refused_keeps layout past (ReadPte p) NoPage old refl tables)
 
   -- an entry of no page
-  pub set_pte_refused : (p : Page) (f : Frame) (flags : Flags) → nat_lt p.0 (known_pages layout.build layout) ≡ false → IsMove layout old old (SetPte p f flags) NoPage None
+  pub set_pte_refused : (p : Page) (f : Frame) (flags : Flags) → nat_lt p.0 (all_pages layout) ≡ false → IsMove layout old old (SetPte p f flags) NoPage None
   set_pte_refused p f flags unknown =
       quiet_moves layout old old (SetPte p f flags) NoPage refl
       (λ past control tables. ap (λ b. if b then Ok else NoPage) unknown)

@@ -8,7 +8,7 @@ use Rattle.ak_core.specs.declared.page.Frame.{Frame}
 use Rattle.ak_core.specs.declared.page.Flags.{Flags}
 use Rattle.ak_core.specs.declared.moves.Move.TheVariants.{SetPte, Eblock, Etrack}
 use Rattle.ak_core.specs.declared.moves.Answer.TheVariants.{Ok, NoPage, Blocked}
-use Rattle.ak_model.specs.Paging.Build.{known_pages}
+use Rattle.ak_model.specs.Paging.Pages.{all_pages}
 use Rattle.ak_model.specs.Paging.Histories.{History, Pair}
 use Rattle.ak_model.specs.Paging.Holdings.{Held, FreeFrame, SecsFrame, VaFrame, PageFrame}
 use Rattle.ak_model.specs.Paging.Frames.{held, blocked_at}
@@ -40,7 +40,7 @@ module _ (layout : Layout) where
   etrack_moves old row = leaf_moves layout old _ Etrack Ok refl row (λ past tables there. shown (etrack_keeps layout past old tables))
 
   -- an entry of the page table
-  pub set_pte_moves : (old : State) (p : Page) (f : Frame) (flags : Flags) → nat_lt p.0 (known_pages layout.build layout) ≡ true →
+  pub set_pte_moves : (old : State) (p : Page) (f : Frame) (flags : Flags) → nat_lt p.0 (all_pages layout) ≡ true →
       IsMove layout old (record old { table = λ q. if q == p.0 then record { frame = f.0; flags = flags } else old.table q }) (SetPte p f flags) Ok None
   set_pte_moves old p f flags known =
       quiet_moves layout old _ (SetPte p f flags) Ok refl (λ past control tables. ap (λ b. if b then Ok else NoPage) known)

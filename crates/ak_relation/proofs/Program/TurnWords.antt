@@ -8,7 +8,7 @@ use Rattle.ak_core.specs.declared.event.Event.TheVariants.{Call as CallEvent, Mi
 use Rattle.ak_model.specs.Paging.Histories.{History}
 use Rattle.ak_model.specs.Control.ControlState.{Phase, New, Running, Calling, Asked, Ended, Trapped, Dead, Context, Program, Enter, Probe, Finish, Guard, Leave, Reason, Interrupted, Cleared, Raised, Denied, Faulted, Missed, Broke, Saved, Control}
 use Rattle.ak_model.specs.Control.OneTurn.{Turn}
-use Rattle.ak_model.specs.Control.RuntimeTurn.{guard_top, program_at_bottom, guarded_twice, accesses, step_fault, handle, enter, finish, resume_guard, leave_call, effect, unless_fault}
+use Rattle.ak_model.specs.Control.RuntimeTurn.{guard_top, program_at_bottom, guarded_twice, accesses, first_fault, handle, enter, finish, resume_guard, leave_call, effect, unless_fault}
 use Rattle.ak_model.specs.Control.EventTurn.{due, event_turn}
 use Rattle.ak_model.specs.Control.Runs.{turn_of, turn}
 use Rattle.ak_ssa.specs.SavedRegisters.{AreWords}
@@ -126,11 +126,11 @@ module _ (layout : Layout) (control : Control) (h : HasWords control) where
   turns : (past : History) (now : Option Context) → BringsWordNow now → TurnHasWords (turn_of layout past control now)
   turns past None low = h
   turns past (Some Program) low = events (due control.count control.rest) h.now
-  turns past (Some (Enter k v)) low = steps (Enter k v) (step_fault layout past (accesses layout control (Enter k v))) low
-  turns past (Some (Probe i)) low = steps (Probe i) (step_fault layout past (accesses layout control (Probe i))) low
-  turns past (Some Finish) low = steps Finish (step_fault layout past (accesses layout control Finish)) low
-  turns past (Some Guard) low = steps Guard (step_fault layout past (accesses layout control Guard)) low
-  turns past (Some (Leave b a)) low = steps (Leave b a) (step_fault layout past (accesses layout control (Leave b a))) low
+  turns past (Some (Enter k v)) low = steps (Enter k v) (first_fault layout past (accesses layout control (Enter k v))) low
+  turns past (Some (Probe i)) low = steps (Probe i) (first_fault layout past (accesses layout control (Probe i))) low
+  turns past (Some Finish) low = steps Finish (first_fault layout past (accesses layout control Finish)) low
+  turns past (Some Guard) low = steps Guard (first_fault layout past (accesses layout control Guard)) low
+  turns past (Some (Leave b a)) low = steps (Leave b a) (first_fault layout past (accesses layout control (Leave b a))) low
 
   -- a turn keeps it
   pub turn-words : (past : History) → TurnHasWords (turn layout past control)

@@ -73,7 +73,7 @@ resume_answered = refl
 
 resume_move : IsMove one_page ready continued (Eresume (record { 0 = 0 })) Ok None
 resume_move =
-    resume_moves one_page refl ready (record { 0 = 0 }) continued resume_answered
+    resume_moves one_page ready (record { 0 = 0 }) continued resume_answered
     (subst (λ n. ResumesAt one_page 0 (n - 1) ready continued) (sym one_saved_at) resumes)
 
 -- ---- The page table
@@ -101,14 +101,9 @@ saves =
 
 faults : (flat : Flat) → Sees one_page lost 0 flat → Faults one_page lost [] flat fetch
 faults flat seen = record {
-  number = 0;
-  stands = first_fetch flat (sym seen.regs);
+  next = record { number = 0; stands = first_fetch flat (sym seen.regs); allowed = refl; walked = []; found = refl; covers = λ t e. absurd (cc) };
   permitted = refl;
   unmapped = refl;
-  allowed = refl;
-  walked = [];
-  found = refl;
-  covers = λ t e. absurd (cc);
   unkept = refl;
 }
 

@@ -70,7 +70,7 @@ enters = record {
 
 enter_move : IsMove one_page built entered (Eenter only 7) Ok None
 enter_move =
-    enter_moves one_page refl built only entered 7 (omega arith) answered (subst (λ n. EntersAt one_page 0 n 7 built entered) (sym none_saved) enters)
+    enter_moves one_page built only entered 7 (omega arith) answered (subst (λ n. EntersAt one_page 0 n 7 built entered) (sym none_saved) enters)
 
 -- the moves
 pub enter_reached : AreMoves one_page input_program entered_past entered []

@@ -95,14 +95,9 @@ saves =
 
 faults : (flat : Flat) → Sees one_page hidden 0 flat → Faults one_page hidden [] flat fetch
 faults flat seen = record {
-  number = 0;
-  stands = first_fetch flat (sym seen.regs);
+  next = record { number = 0; stands = first_fetch flat (sym seen.regs); allowed = refl; walked = []; found = refl; covers = λ t e. absurd (cc) };
   permitted = refl;
   unmapped = refl;
-  allowed = refl;
-  walked = [];
-  found = refl;
-  covers = λ t e. absurd (cc);
   unkept = refl;
 }
 

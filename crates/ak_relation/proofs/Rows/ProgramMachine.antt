@@ -143,7 +143,7 @@ enters = record {
 
 enter_move : IsMove one_page shown begun (Eenter (record { 0 = 0 }) 7) Ok None
 enter_move =
-    enter_moves one_page refl shown (record { 0 = 0 }) begun 7 (omega arith) answered (subst (λ n. EntersAt one_page 0 n 7 shown begun) (sym none_saved) enters)
+    enter_moves one_page shown (record { 0 = 0 }) begun 7 (omega arith) answered (subst (λ n. EntersAt one_page 0 n 7 shown begun) (sym none_saved) enters)
 
 -- the moves
 load_reached : AreMoves one_page input_program fetched_past fetched []

@@ -162,7 +162,7 @@ none_below = one_saved_at
 
 resume_move : IsMove one_page mapped resumed (Eresume (record { 0 = 0 })) Ok None
 resume_move =
-    resume_moves one_page refl mapped (record { 0 = 0 }) resumed resume_answered
+    resume_moves one_page mapped (record { 0 = 0 }) resumed resume_answered
     (subst (λ n. ResumesAt one_page 0 (n - 1) mapped resumed) (sym none_below) resumes)
 
 -- the moves

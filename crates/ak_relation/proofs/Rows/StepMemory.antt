@@ -222,7 +222,7 @@ Steps old qs ws granted outcome regs =
 -- it is a turn
 pub step_turn : (old new : State) (qs : List ℕ) (ws : List Written) (granted : List Access) (outcome : RtTurn) (regs : Regs) → (old.processors 0).regs.mode ≡ Mode.Runtime →
     Changes old new qs ws granted → Ends 0 outcome regs old new → Steps old qs ws granted outcome regs → IsTurn one_page 0 old new (exit_of one_page outcome) None
-step_turn old new qs ws granted outcome regs mode c ends steps = valid_turns one_page page_valid refl (record { 0 = 0 }) old new outcome shows
+step_turn old new qs ws granted outcome regs mode c ends steps = valid_turns one_page page_valid (record { 0 = 0 }) old new outcome shows
   where
     shows : ShowsStep one_page 0 old new outcome
     shows = record {
@@ -246,7 +246,7 @@ pub refused_turn : (old new : State) (qs : List ℕ) (granted : List Access) (t 
     ((later : List Access) × (granted ++ t ∷ later ≡ accesses one_page control context))) →
     ((saved : ℕ) (pending : Bool) → IsTcs saved pending (old.frames (old.processors 0).tcs) → Saves one_page 0 saved true (ByPage t) old new) →
     IsTurn one_page 0 old new (Some (shown_fault one_page)) None
-refused_turn old new qs granted t mode c low lost next saves = valid_turns one_page page_valid refl (record { 0 = 0 }) old new (RtTurn.Faulted t) shows
+refused_turn old new qs granted t mode c low lost next saves = valid_turns one_page page_valid (record { 0 = 0 }) old new (RtTurn.Faulted t) shows
   where
     sees : (past : History) → TablesStand one_page past old → MemorySees one_page past (holds_of qs) (bytes_of old) granted (Some t) old
     sees past h =
@@ -303,7 +303,7 @@ equal n = grind (arith, nat_tests)
 pub entered_move : (old : State) (n v : ℕ) (tcs : List ℕ) → v < 2 ^ 64 → saved_in one_page old ≡ n → IsTcs n false tcs → length tcs ≡ 4096 → ((g : ℕ) → length (old.frames g) ≡ 4096) →
     enter_row one_page old 0 ≡ Ok → IsMove one_page old (entered_with old n v tcs) (Eenter (record { 0 = 0 }) v) Ok None
 entered_move old n v tcs low saved is whole all row =
-    enter_moves one_page refl old (record { 0 = 0 }) (entered_with old n v tcs) v low row (subst (λ k. EntersAt one_page 0 k v old (entered_with old n v tcs)) (sym saved) enters)
+    enter_moves one_page old (record { 0 = 0 }) (entered_with old n v tcs) v low row (subst (λ k. EntersAt one_page 0 k v old (entered_with old n v tcs)) (sym saved) enters)
   where
     enters : EntersAt one_page 0 n v old (entered_with old n v tcs)
     enters = record {

@@ -224,7 +224,7 @@ resume_answered = refl
 
 resume_move : IsMove one_page stopped guarded (Eresume (record { 0 = 0 })) Ok None
 resume_move =
-    resume_moves one_page refl stopped (record { 0 = 0 }) guarded resume_answered
+    resume_moves one_page stopped (record { 0 = 0 }) guarded resume_answered
     (subst (λ n. ResumesAt one_page 0 (n - 1) stopped guarded) (sym one_saved_at) resumes)
 
 guard_reached : AreMoves one_page input_program guarded_past guarded (Miss 0 0 ∷ Break 0 ∷ [])

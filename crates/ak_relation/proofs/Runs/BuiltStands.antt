@@ -11,7 +11,7 @@ use Rattle.ak_relation.specs.Relation.Does.{at_moment}
 
 -- the relation after the build
 pub built_stands : (layout : Layout) (image : List ℕ) (state : State) → IsValid layout → IsBuilt layout image state →
-    Stands layout image (at_moment [] (control_at_build layout []) [] state)
+    Stands layout image (at_moment [] (control_at_build []) [] state)
 built_stands layout image state valid b = record {
   inputs = record { valid = valid; bytes = b.bytes; whole = b.whole; words = record { returned = tt; saved = tt; now = tt } };
   tape = record { ordered = refl; fit = tt; completed = λ i lt. absurd (omega arith); traps = tt };

@@ -18,7 +18,7 @@ use Rattle.ak_model.specs.Control.ControlState.{Phase, New, Running, Calling, As
 use Rattle.ak_model.specs.Control.Entering.{entered, resumed_by, interrupted_by, on_ok, on_exit, control_after}
 use Rattle.ak_model.specs.Control.EventTurn.{due, leave_program, event_turn}
 use Rattle.ak_model.specs.Control.OneTurn.{Turn, Goes, Leaves}
-use Rattle.ak_model.specs.Control.RuntimeTurn.{accesses, step_fault, shown_fault, handle, enter, finish, resume_guard, leave_call, effect, unless_fault}
+use Rattle.ak_model.specs.Control.RuntimeTurn.{accesses, first_fault, shown_fault, handle, enter, finish, resume_guard, leave_call, effect, unless_fault}
 use Rattle.ak_model.specs.Control.Runs.{turn_of, run}
 use Rattle.ak_model.proofs.Paging.Tests.{either_way}
 use Rattle.ak_pager.specs.declared.turn.RtTurn.{RtTurn}
@@ -109,11 +109,11 @@ module _ (layout : Layout) (control : Control) where
   pub turn_keeps : (past : History) (now : Option Context) → GoingKeeps control (turn_of layout past control now)
   turn_keeps past None = record { stack = refl; cause = refl }
   turn_keeps past (Some Program) = event_keeps (due control.count control.rest)
-  turn_keeps past (Some (Enter k v)) = step_keeps (Enter k v) (step_fault layout past (accesses layout control (Enter k v)))
-  turn_keeps past (Some (Probe i)) = step_keeps (Probe i) (step_fault layout past (accesses layout control (Probe i)))
-  turn_keeps past (Some Finish) = step_keeps Finish (step_fault layout past (accesses layout control Finish))
-  turn_keeps past (Some Guard) = step_keeps Guard (step_fault layout past (accesses layout control Guard))
-  turn_keeps past (Some (Leave b a)) = step_keeps (Leave b a) (step_fault layout past (accesses layout control (Leave b a)))
+  turn_keeps past (Some (Enter k v)) = step_keeps (Enter k v) (first_fault layout past (accesses layout control (Enter k v)))
+  turn_keeps past (Some (Probe i)) = step_keeps (Probe i) (first_fault layout past (accesses layout control (Probe i)))
+  turn_keeps past (Some Finish) = step_keeps Finish (first_fault layout past (accesses layout control Finish))
+  turn_keeps past (Some Guard) = step_keeps Guard (first_fault layout past (accesses layout control Guard))
+  turn_keeps past (Some (Leave b a)) = step_keeps (Leave b a) (first_fault layout past (accesses layout control (Leave b a)))
 
 -- ---- Turns of the program
 

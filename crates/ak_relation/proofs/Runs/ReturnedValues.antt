@@ -13,7 +13,7 @@ use Rattle.ak_core.specs.declared.moves.Answer.TheVariants.{Ok, Exit as Exited}
 use Rattle.ak_model.specs.Paging.Histories.{History}
 use Rattle.ak_model.specs.Control.ControlState.{Phase, New, Running, Calling, Asked, Ended, Trapped, Dead, Context, Program, Enter, Probe, Finish, Guard, Leave, Reason, Interrupted, Cleared, Raised, Denied, Missed, Broke, Faulted, Saved, Control}
 use Rattle.ak_model.specs.Control.OneTurn.{Turn, Goes, Leaves}
-use Rattle.ak_model.specs.Control.RuntimeTurn.{accesses, step_fault, handle, enter, finish, resume_guard, leave_call, effect, unless_fault}
+use Rattle.ak_model.specs.Control.RuntimeTurn.{accesses, first_fault, handle, enter, finish, resume_guard, leave_call, effect, unless_fault}
 use Rattle.ak_model.specs.Control.EventTurn.{due, event_turn}
 use Rattle.ak_model.specs.Control.Runs.{turn_of, turn, go_on, run}
 use Rattle.ak_model.specs.Control.Entering.{resumed_by, interrupted_by, on_ok, on_exit, control_after}
@@ -22,7 +22,7 @@ use Rattle.ak_model.proofs.Tapes.RunsOverTapes.{after}
 
 -- ---- Beginnings
 
-abbrev Grows : Control → Control → Type 0
+abbrev pub Grows : Control → Control → Type 0
 Grows old new = IsPrefixOf old.returned new.returned
 
 grows-same : (control : Control) → Grows control control
@@ -32,7 +32,7 @@ begins-then : (xs ys zs : List ℕ) → IsPrefixOf xs ys → IsPrefixOf ys zs �
 begins-then xs ys zs h k = (h.0 ++ k.0, sym (append_assoc xs h.0 k.0) ∙ ap (λ values. values ++ k.0) h.1 ∙ k.1)
 
 -- the values after a turn begin with those before it
-abbrev GrowsBy : Control → Turn → Type 0
+abbrev pub GrowsBy : Control → Turn → Type 0
 GrowsBy control t = Grows control (after t)
 
 -- ---- A step of the runtime
@@ -114,14 +114,14 @@ module _ (layout : Layout) (control : Control) where
 
   -- ---- Turns and moves
 
-  turn_grows : (past : History) (now : Option Context) → GrowsBy control (turn_of layout past control now)
+  pub turn_grows : (past : History) (now : Option Context) → GrowsBy control (turn_of layout past control now)
   turn_grows past None = grows-same control
   turn_grows past (Some Program) = event_grows (due control.count control.rest)
-  turn_grows past (Some (Enter k v)) = step_grows (Enter k v) (step_fault layout past (accesses layout control (Enter k v)))
-  turn_grows past (Some (Probe i)) = step_grows (Probe i) (step_fault layout past (accesses layout control (Probe i)))
-  turn_grows past (Some Finish) = step_grows Finish (step_fault layout past (accesses layout control Finish))
-  turn_grows past (Some Guard) = step_grows Guard (step_fault layout past (accesses layout control Guard))
-  turn_grows past (Some (Leave b a)) = step_grows (Leave b a) (step_fault layout past (accesses layout control (Leave b a)))
+  turn_grows past (Some (Enter k v)) = step_grows (Enter k v) (first_fault layout past (accesses layout control (Enter k v)))
+  turn_grows past (Some (Probe i)) = step_grows (Probe i) (first_fault layout past (accesses layout control (Probe i)))
+  turn_grows past (Some Finish) = step_grows Finish (first_fault layout past (accesses layout control Finish))
+  turn_grows past (Some Guard) = step_grows Guard (first_fault layout past (accesses layout control Guard))
+  turn_grows past (Some (Leave b a)) = step_grows (Leave b a) (first_fault layout past (accesses layout control (Leave b a)))
 
 -- ---- Runs and moves
 

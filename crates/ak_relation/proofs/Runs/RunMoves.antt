@@ -78,3 +78,21 @@ module _ (layout : Layout) (image : List ℕ) where
     told = r.told;
     stands = r.stands;
   }
+
+  -- so many turns that go on and one that leaves, as a move: it comes to where the last turn does
+  pub run_ends : (lp : Lp) (past : History) (control : Control) (turns : List ProgramTurn) (old mid new : State) (n all : ℕ) (exit : Exit) (first second both : Option Event) →
+      nat_lt lp.0 layout.lps ≡ true → inside past lp.0 ≡ true → n < all →
+      (r : GoesTo layout image (RunFollows layout lp.0 past n) (at_moment past control turns old) past mid first) →
+      (s : GoesTo layout image (TurnFollows layout lp.0 past (Some exit)) (at_moment past r.control r.turns mid) (past_after past lp.0 all (Some exit)) new second) →
+      listed first ++ listed second ≡ listed both →
+      (g : GoesTo layout image (MoveFollows layout past (Run lp all) (Answer.Exit exit)) (at_moment past control turns old) ((Run lp all, Answer.Exit exit) ∷ past) new both)
+      × (g.control ≡ s.control) × (g.turns ≡ s.turns)
+  unfolding run_is_move then_reaches
+  run_ends lp past control turns old mid new n all exit first second both known within lt r s one = (
+    run_is_move lp past control turns old new all exit both known within
+        (then_reaches (RunFollows layout lp.0 past n) (TurnFollows layout lp.0 past (Some exit)) (EndFollows layout lp.0 past all exit)
+        (at_moment past control turns old) past (past_after past lp.0 all (Some exit)) mid new first second both
+        (λ m k b h a f g. last_turn layout lp.0 past n all exit b h a m k lt f g) r s one),
+    refl,
+    refl,
+  )

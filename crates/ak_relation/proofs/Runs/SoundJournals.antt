@@ -5,7 +5,6 @@ use Rattle.std.specs.Prelude.{option_and_then, Some, None}
 use Rattle.ak_core.specs.Layout.{Layout}
 use Rattle.ak_core.specs.Journal.{Journal}
 use Rattle.ak_core.specs.declared.event.Event.{Event}
-use Rattle.ak_model.specs.Paging.Build.{queue_at_build}
 use Rattle.ak_model.specs.Paging.Histories.{History}
 use Rattle.ak_model.specs.Flat.FlatRuns.{flat_run, outputs}
 use Rattle.ak_model.specs.Control.ControlState.{Control}
@@ -117,7 +116,7 @@ module _ (layout : Layout) (image : List ℕ) (past : History) (state : State) (
 
   -- ---- Outputs
 
-  misses : MissesFit layout (queue_at_build layout.build layout) journal.events
+  misses : MissesFit layout [] journal.events
   misses = tape.fit
 
   told : events_by (turns_of layout journal) ≡ journal.events

@@ -51,7 +51,7 @@ module _ (layout : Layout) (image : List ℕ) (returned more : List ℕ) (made t
         inside = b.inside;
       }
 
-  cause_stays : (cause : StopCause) → CauseNamesBreak layout (flat_run layout image returned) turns cause → CauseNamesBreak layout (flat_run layout image (returned ++ more)) (made ++ turns) cause
+  pub cause_stays : (cause : StopCause) → CauseNamesBreak layout (flat_run layout image returned) turns cause → CauseNamesBreak layout (flat_run layout image (returned ++ more)) (made ++ turns) cause
   cause_stays (Unmapped p kind) h = break_stays (record { page = p; kind = kind }) h
   cause_stays (RuntimeUnmapped p kind) h = tt
   cause_stays (FetchNotHonoured p kind) h = tt

@@ -79,7 +79,7 @@ module _ (layout : Layout) (image : List ℕ) (valid : IsValid layout) where
   pub traced_by : (past : History) (state : State) (events : List Event) → AreMoves layout image past state events → IsTraced layout image past state events
   traced_by [] state events moved =
       subst (IsTraced layout image [] state) (sym moved.1) (record {
-        control = control_at_build layout [];
+        control = control_at_build [];
         turns = [];
         stands = built_stands layout image state valid moved.0;
         told = refl;

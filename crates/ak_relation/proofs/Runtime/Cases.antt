@@ -13,7 +13,6 @@ use Rattle.ak_core.specs.declared.registers.Regs.{Regs}
 use Rattle.ak_model.specs.Paging.Pages.{ssa_page, state_page}
 use Rattle.ak_model.specs.Paging.Histories.{History, Exits, change}
 use Rattle.ak_model.specs.Paging.Inside.{since}
-use Rattle.ak_model.specs.Paging.Build.{steps_walk}
 use Rattle.ak_model.specs.Flat.FlatRuns.{Flat}
 use Rattle.ak_model.specs.Control.ControlState.{Phase, Context, Saved, Control, first_cause}
 use Rattle.ak_model.specs.Control.RuntimeTurn.{accesses, effect, leave}
@@ -44,7 +43,6 @@ use Rattle.ak_relation.proofs.Runtime.RowTurns.{RowBytes, row_goes, row_leaves}
 -- a step at a place: all its accesses were found, and the machine shows this outcome
 pub record Case (layout : Layout) (image : List ℕ) (past : History) (control : Control) (turns : List ProgramTurn) (old new : State) (lp : Lp) (context : Context) (outcome : RtTurn) (regs : Regs) : Type 0 where
   pub fit : ClustersFit layout
-  pub walks : steps_walk layout.build ≡ true
   pub room : HasRoom layout
   pub place : ℕ
   pub h : Stands layout image (at_moment past control turns old)
@@ -102,16 +100,16 @@ module _ (layout : Layout) (image : List ℕ) (past : History) (control : Contro
         Gives layout next.phase b.flat context_next regs → next.cause ≡ control.cause → outcome ≡ RtTurn.Go → Comes all outcome
     goes_by context_next is_next more grown same effects b gives cause_is went =
         subst (λ o. Ends lp.0 o regs old new → Comes all o) (sym went)
-        (λ g. let s = row_goes layout c.fit c.walks image past control turns old new lp c.place all context c.h c.is c.step c.now next keeps c.kept regs g context_next is_next more grown same
-        (λ later. works layout past c.walks lp.0 control context c.step c.now c.holds c.granted c.found c.accessed later ∙ effects later) b gives in (s.0, s.1 ∙ cause_is)) c.ends
+        (λ g. let s = row_goes layout c.fit image past control turns old new lp c.place all context c.h c.is c.step c.now next keeps c.kept regs g context_next is_next more grown same
+        (λ later. works layout past lp.0 control context c.step c.now c.holds c.granted c.found c.accessed later ∙ effects later) b gives in (s.0, s.1 ∙ cause_is)) c.ends
 
     pub leaves_by : (exit : Exit) → change (Run lp all) (Answer.Exit exit) ≡ Exits lp.0 exit → next.now ≡ None → control.returned ≡ next.returned →
         ((later : List Event) → effect layout (with_rest control later) context ≡ turn_to (Some exit) (with_rest next later)) → RowBytes layout image past turns new next → next.cause ≡ control.cause →
         outcome ≡ RtTurn.Leave exit → Comes all outcome
     leaves_by exit e none same effects b cause_is left =
         subst (λ o. Ends lp.0 o regs old new → Comes all o) (sym left)
-        (λ q. let s = row_leaves layout c.fit c.walks image past control turns old new lp c.place all context c.h c.is c.step c.now next keeps c.kept q exit e none same
-        (λ later. works layout past c.walks lp.0 control context c.step c.now c.holds c.granted c.found c.accessed later ∙ effects later) b in (s.0, s.1 ∙ cause_is)) c.ends
+        (λ q. let s = row_leaves layout c.fit image past control turns old new lp c.place all context c.h c.is c.step c.now next keeps c.kept q exit e none same
+        (λ later. works layout past lp.0 control context c.step c.now c.holds c.granted c.found c.accessed later ∙ effects later) b in (s.0, s.1 ∙ cause_is)) c.ends
 
     -- or the enclave dies
     pub dies_by : (cause : StopCause) → next.now ≡ None → control.returned ≡ next.returned →
@@ -119,8 +117,8 @@ module _ (layout : Layout) (image : List ℕ) (past : History) (control : Contro
         outcome ≡ RtTurn.Dead cause → Comes all outcome
     dies_by cause none same effects b cause_is died =
         subst (λ o. Ends lp.0 o regs old new → Comes all o) (sym died)
-        (λ q. let s = row_leaves layout c.fit c.walks image past control turns old new lp c.place all context c.h c.is c.step c.now next keeps c.kept q Exit.Stopped refl none same
-        (λ later. works layout past c.walks lp.0 control context c.step c.now c.holds c.granted c.found c.accessed later ∙ effects later) b in (s.0, s.1 ∙ cause_is)) c.ends
+        (λ q. let s = row_leaves layout c.fit image past control turns old new lp c.place all context c.h c.is c.step c.now next keeps c.kept q Exit.Stopped refl none same
+        (λ later. works layout past lp.0 control context c.step c.now c.holds c.granted c.found c.accessed later ∙ effects later) b in (s.0, s.1 ∙ cause_is)) c.ends
 
   -- ---- The row that only leaves
 

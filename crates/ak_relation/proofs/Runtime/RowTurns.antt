@@ -11,7 +11,6 @@ use Rattle.ak_core.specs.declared.moves.Answer.{Answer}
 use Rattle.ak_core.specs.declared.registers.Regs.{Regs}
 use Rattle.ak_model.specs.Paging.Histories.{History, Exits, change}
 use Rattle.ak_model.specs.Paging.Inside.{since, inside}
-use Rattle.ak_model.specs.Paging.Build.{steps_walk}
 use Rattle.ak_model.specs.Flat.FlatRuns.{Flat}
 use Rattle.ak_model.specs.Control.ControlState.{Context, Control}
 use Rattle.ak_model.specs.Control.OneTurn.{Goes, Leaves}
@@ -39,7 +38,7 @@ pub record RowBytes (layout : Layout) (image : List ℕ) (past : History) (turns
   pub pages : CopiesStand layout next.phase next.queue next.stack next.pending flat (copies_at layout past new)
   pub breaks : BreaksStand layout (runs_at layout image next) turns (copies_at layout past new) next.stack
 
-module _ (layout : Layout) (fit : ClustersFit layout) (walks : steps_walk layout.build ≡ true) (image : List ℕ) (past : History) (control : Control) (turns : List ProgramTurn) (old new : State)
+module _ (layout : Layout) (fit : ClustersFit layout) (image : List ℕ) (past : History) (control : Control) (turns : List ProgramTurn) (old new : State)
     (lp : Lp) (place all : ℕ) (context : Context)
     (h : Stands layout image (at_moment past control turns old)) (is : since past lp.0 ≡ Some place) (step : IsStep context) (now : control.now ≡ Some context) (next : Control) (keeps : Keeps control next turns) where
   -- the turn as the definitions have it, whatever comes later
@@ -62,7 +61,7 @@ module _ (layout : Layout) (fit : ClustersFit layout) (walks : steps_walk layout
     made = [];
     does = record {
       turns = refl;
-      traced = λ later ok. record { turned = turned later; made_are = made_none layout past walks lp.0 control context step now later };
+      traced = λ later ok. record { turned = turned later; made_are = made_none layout past lp.0 control context step now later };
       due = later_same;
     };
     told = refl;

@@ -7,7 +7,6 @@ use Rattle.ak_core.specs.declared.page.Lp.{Lp}
 use Rattle.ak_model.specs.Paging.Pages.{tcs_page}
 use Rattle.ak_model.specs.Paging.Histories.{History}
 use Rattle.ak_model.specs.Paging.Inside.{since, inside}
-use Rattle.ak_model.specs.Paging.Build.{steps_walk}
 use Rattle.ak_model.specs.Control.ControlState.{Control}
 use Rattle.ak_model.specs.Control.RuntimeTurn.{shown_fault}
 use Rattle.ak_model.specs.Tapes.ProgramTurns.{ProgramTurn}
@@ -30,20 +29,20 @@ use Rattle.ak_relation.proofs.Runtime.RowTurns.{goes_there}
 use Rattle.ak_relation.proofs.Runtime.Cases.{Case}
 use Rattle.ak_relation.proofs.Runtime.StepCases.{steps}
 
-module _ (layout : Layout) (fit : ClustersFit layout) (walks : steps_walk layout.build ≡ true) (room : HasRoom layout) (lp : Lp) (old new : State) (outcome : RtTurn) (s : ShowsStep layout lp.0 old new outcome) where
+module _ (layout : Layout) (fit : ClustersFit layout) (room : HasRoom layout) (lp : Lp) (old new : State) (outcome : RtTurn) (s : ShowsStep layout lp.0 old new outcome) where
   module _ (image : List ℕ) (past : History) (control : Control) (turns : List ProgramTurn) (within : inside past lp.0 ≡ true) (h : Stands layout image (at_moment past control turns old)) (all : ℕ) where
     -- what the turn comes to
     abbrev pub Done : Type 0
     Done = (g : GoesTo layout image (TurnFollows layout lp.0 past (exit_of layout outcome)) (at_moment past control turns old) (past_after past lp.0 all (exit_of layout outcome)) new None)
         × CauseIs control outcome g.control.cause
 
-    seen : MemorySees layout past s.holds s.before s.granted s.refused old
+    pub seen : MemorySees layout past s.holds s.before s.granted s.refused old
     seen = s.sees past h.tables
 
-    at : AtStep control.now
+    pub at : AtStep control.now
     at = at_step layout image past control turns old h lp.0 within s.holds s.before seen.memory s.mode
 
-    contract : StepsTo layout control at.context (old.processors lp.0).regs s.before s.after s.granted s.refused outcome s.regs
+    pub contract : StepsTo layout control at.context (old.processors lp.0).regs s.before s.after s.granted s.refused outcome s.regs
     contract = s.steps control at.context h.bytes.flat (may_step layout image past control turns old h lp.0 within s.holds s.before seen.memory at.context at.step at.is)
 
     module _ (place : ℕ) (is : since past lp.0 ≡ Some place) where
@@ -54,12 +53,11 @@ module _ (layout : Layout) (fit : ClustersFit layout) (walks : steps_walk layout
       tcs = subst (λ o. OfCopy o (IsTcs (length control.stack) control.pending)) (ap (copy old) (h.tables.one_copy.placed (tcs_page layout) (old.processors lp.0).tcs stay.tcs.frame.holds)) h.bytes.pages.tcs
 
       -- all accesses were found
-      worked : s.refused ≡ None → Done
-      worked e =
+      abbrev pub case_of : s.refused ≡ None → Case layout image past control turns old new lp at.context outcome s.regs
+      case_of e =
           let shown = contract.works e in let left = s.works e past h.tables in
-          let c : Case layout image past control turns old new lp at.context outcome s.regs = record {
+          record {
             fit = fit;
-            walks = walks;
             room = room;
             place = place;
             h = h;
@@ -75,8 +73,12 @@ module _ (layout : Layout) (fit : ClustersFit layout) (walks : steps_walk layout
             writes = left.writes;
             kept = left.kept;
             ends = left.ends;
-          } in
-          steps layout image past control turns old new lp outcome s.regs (old.processors lp.0).regs all at.context c
+          }
+
+      worked : s.refused ≡ None → Done
+      worked e =
+          let shown = contract.works e in
+          steps layout image past control turns old new lp outcome s.regs (old.processors lp.0).regs all at.context (case_of e)
           (gives layout image past control turns old h lp.0 within s.holds s.before seen.memory at.context at.step at.is) shown.1
 
       -- one was refused
@@ -84,12 +86,12 @@ module _ (layout : Layout) (fit : ClustersFit layout) (walks : steps_walk layout
       refused t e =
           let shown = contract.faults t e in let more = shown.0 in
           let lost = subst (IsLost layout past) e seen.lost in
-          let turned = faults layout past walks lp.0 control at.context at.step at.is s.holds s.granted more.0 t seen.found lost more.1 in
+          let turned = faults layout past lp.0 control at.context at.step at.is s.holds s.granted more.0 t seen.found lost more.1 in
           let saves = s.faults t e (length control.stack) control.pending tcs in
           let stands = faulted_stands layout fit image past control turns old new lp place all at.context h is at.step at.is t (turned control.rest) saves s.mode in
           let kept = keeps layout fit image past control turns old new lp place all at.context h is at.step at.is t (turned control.rest) saves s.mode in
           subst (λ o. (g : GoesTo layout image (TurnFollows layout lp.0 past (exit_of layout o)) (at_moment past control turns old) (past_after past lp.0 all (exit_of layout o)) new None) × CauseIs control o g.control.cause) (sym shown.3)
-          (goes_there layout fit walks image past control turns old new lp place all at.context h is at.step at.is (faulted control at.context t) kept (Some (shown_fault layout)) turned stands)
+          (goes_there layout fit image past control turns old new lp place all at.context h is at.step at.is (faulted control at.context t) kept (Some (shown_fault layout)) turned stands)
 
       by_refused : (o : Option Access) → s.refused ≡ o → Done
       by_refused None e = worked e

@@ -2,7 +2,6 @@
 -- the start, and nobody inside.
 use Rattle.std.specs.Prelude.{◌≡◌, ℕ, ◌*◌, false, List, [], length}
 use Rattle.ak_core.specs.Layout.{Layout}
-use Rattle.ak_model.specs.Paging.Build.{queue_at_build}
 use Rattle.ak_model.specs.Paging.Pages.{pages}
 use Rattle.ak_model.specs.Control.ControlState.{New}
 use Rattle.ak_model.specs.Flat.FlatRuns.{Flat, first_run}
@@ -21,8 +20,8 @@ pub record IsBuilt (layout : Layout) (image : List ℕ) (state : State) : Type 0
   pub bytes : AreBytes image
   pub whole : length image ≡ 4096 * pages layout
   pub tables : TablesStand layout [] state
-  pub pages : CopiesStand layout New (queue_at_build layout.build layout) [] false (first_state layout image) (copies_at layout [] state)
+  pub pages : CopiesStand layout New [] [] false (first_state layout image) (copies_at layout [] state)
   pub count : state.count ≡ 0
-  pub queue : state.queue ≡ queue_at_build layout.build layout
+  pub queue : state.queue ≡ []
   pub outside : (lp : ℕ) → (state.processors lp).inside ≡ false
   pub flushed : (lp : ℕ) → (state.processors lp).fills ≡ []

@@ -27,18 +27,21 @@ pub record Traps (layout : Layout) (state : State) (fills : List Fill) (flat : F
   pub found : AreWalked layout state walked
   pub covers : (t : Access) → is_among (permitted_accesses layout (line layout flat).accesses) t ≡ true → (is_filled fills t || is_among walked t) ≡ true
 
--- this access of the instruction is permitted, and no walk finds it; those before it are permitted, and cached or walked; and what
--- was cached with these does not surely keep it
-pub record Faults (layout : Layout) (state : State) (fills : List Fill) (flat : Flat) (access : Access) : Type 0 where
+-- this access of the instruction comes next: those before it are permitted, and cached or walked
+pub record IsNext (layout : Layout) (state : State) (fills : List Fill) (flat : Flat) (access : Access) : Type 0 where
   pub number : ℕ
   pub stands : slice_get (line layout flat).accesses number ≡ Some access
-  pub permitted : is_forbidden layout access ≡ false
-  pub unmapped : walk_in layout state access.page.0 access.kind ≡ false
   pub allowed : list_all (λ t. not (is_forbidden layout t)) (take number (line layout flat).accesses) ≡ true
   pub walked : List Access
   pub found : AreWalked layout state walked
   pub covers : (t : Access) → is_among (take number (line layout flat).accesses) t ≡ true → (is_filled fills t || is_among walked t) ≡ true
-  pub unkept : is_kept (accesses_of fills ++ take number (line layout flat).accesses) access ≡ false
+
+-- it is permitted, and no walk finds it; and what was cached with those before it does not surely keep it
+pub record Faults (layout : Layout) (state : State) (fills : List Fill) (flat : Flat) (access : Access) : Type 0 where
+  pub next : IsNext layout state fills flat access
+  pub permitted : is_forbidden layout access ≡ false
+  pub unmapped : walk_in layout state access.page.0 access.kind ≡ false
+  pub unkept : is_kept (accesses_of fills ++ take next.number (line layout flat).accesses) access ≡ false
 
 -- wherever the program is that the processor sees, the instruction traps
 abbrev pub ShowsTrap : Layout → ℕ → State → ℕ → Type 0
@@ -47,6 +50,11 @@ ShowsTrap layout lp old v = (flat : Flat) → Sees layout old lp flat → Traps 
 -- the access faults
 abbrev pub ShowsFault : Layout → ℕ → State → Access → Type 0
 ShowsFault layout lp old access = (flat : Flat) → Sees layout old lp flat → Faults layout old (old.processors lp).fills flat access
+
+-- the access comes next, and its page does not allow it
+abbrev pub ShowsDenied : Layout → ℕ → State → Access → Type 0
+ShowsDenied layout lp old access =
+    (is_forbidden layout access ≡ true) × ((flat : Flat) → Sees layout old lp flat → IsNext layout old (old.processors lp).fills flat access)
 
 -- the processor is saved in the first area, with this cause, where the TCS says that nothing is saved
 abbrev pub SavesFirst : Layout → ℕ → State → State → SavedCause → Type 0

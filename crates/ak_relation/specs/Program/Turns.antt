@@ -3,7 +3,6 @@
 use Rattle.std.specs.Prelude.{◌≡◌, ℕ, zero, suc, ◌<◌, ◌≤◌, Bool, true, false, ◌||◌, not, List, [], ◌∷◌, ◌++◌, length, Option, Some, None, option_and_then}
 use Rattle.ak_core.specs.Layout.{Layout}
 use Rattle.ak_core.specs.declared.event.Event.{Event}
-use Rattle.ak_model.specs.Paging.Build.{queue_at_build}
 use Rattle.ak_model.specs.Paging.Histories.{History}
 use Rattle.ak_model.specs.Paging.Inside.{someone_inside}
 use Rattle.ak_core.specs.declared.event.Event.TheVariants.{Call, Miss, Trap, Break}
@@ -38,7 +37,7 @@ events_by (turn ∷ older) = events_by older ++ listed turn.event
 -- instruction is one of the flat run and a call just where the tape has it, and each trap is forced
 pub record TapeStands (layout : Layout) (runs : FlatRuns) (count : ℕ) (events : List Event) : Type 0 where
   pub ordered : is_tape events ≡ true
-  pub fit : MissesFit layout (queue_at_build layout.build layout) events
+  pub fit : MissesFit layout [] events
   pub completed : (i : ℕ) → i < count → option_and_then completed_by (ending_at layout runs i) ≡ Some (call_at events i)
   pub traps : TrapsAreForced layout runs events
 

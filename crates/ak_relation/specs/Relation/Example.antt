@@ -2,7 +2,6 @@
 use Rattle.std.specs.Prelude.{ℕ, List, [], ◌∷◌, ◌++◌, replicate}
 use Rattle.ak_core.specs.Layout.{Layout}
 use Rattle.ak_core.specs.declared.event.Event.{Event}
-use Rattle.ak_core.specs.declared.build.Build.TheVariants.{Sealed}
 use Rattle.ak_core.specs.declared.page.Perm.TheVariants.{Rw, Rx}
 use Rattle.ak_core.specs.declared.moves.Move.TheVariants.{SetPte, Eblock, Etrack, Ewb, Eldu, Eenter, Eresume, Run, Interrupt}
 use Rattle.ak_core.specs.declared.moves.Answer.{Answer}
@@ -17,7 +16,7 @@ use Rattle.ak_relation.specs.Relation.MoveByMove.{HasMoved}
 -- one page that may be read and executed, sealed by the build; nine frames and one processor
 abbrev pub one_page : Layout
 one_page =
-    record { base = 268435456; entry = 0; perms = Rx ∷ []; cluster_of = 0 ∷ []; clusters = 1; budget = 1; frames = 9; lps = 1; build = Sealed }
+    record { base = 268435456; entry = 0; perms = Rx ∷ []; cluster_of = 0 ∷ []; clusters = 1; budget = 1; frames = 9; lps = 1 }
 
 -- its image: an instruction that does nothing, then a call of number 2, which reads a value (MOV RDI, 2; MOV RAX, 4; ENCLU), and then
 -- one that is undefined

@@ -11,5 +11,5 @@ ghost use Rattle.ak_core.specs.Layout;
 /// After the build the relation holds of the empty history, with no turn and no event.
 pub fn built_stands()
     ensures { (layout : Layout.Layout) (image : List ℕ) (state : State) → IsValid layout → IsBuilt layout image state
-        → Stands layout image (at_moment [] (control_at_build layout []) [] state) }
+        → Stands layout image (at_moment [] (control_at_build []) [] state) }
 {}

@@ -5,7 +5,6 @@ ghost use Rattle.ak_core.specs.declared.moves.Move.TheVariants.{Eenter, Eresume,
 ghost use Rattle.ak_core.specs.declared.page.Kind.{Kind};
 ghost use Rattle.ak_core.specs.declared.page.Lp.{Lp};
 ghost use Rattle.ak_model.specs.Kernels.Repeats.{is_done};
-ghost use Rattle.ak_model.specs.Paging.Build.{entering_walks};
 ghost use Rattle.ak_model.specs.Paging.Histories.{History};
 ghost use Rattle.ak_model.specs.Paging.Pages.{all_pages};
 ghost use Rattle.ak_model.specs.Paging.Walk.{tcs_walkable, walkable};
@@ -29,22 +28,22 @@ pub fn walks_agree()
         → tcs_in layout state ≡ tcs_walkable layout past }
 {}
 
-/// An entering is a move, by its row over the machine's own tables, where entering walks: done, with a value of 64 bits, of a machine
-/// that shows what it does, or refused, of one that stays.
+/// An entering is a move, by its row over the machine's own tables: done, with a value of 64 bits, of a machine that shows what it
+/// does, or refused, of one that stays.
 pub fn enter_moves()
-    ensures done { (layout : Layout.Layout) (old new : State) (lp : Lp) (v : ℕ) → entering_walks layout.build ≡ true
+    ensures done { (layout : Layout.Layout) (old new : State) (lp : Lp) (v : ℕ)
         → v < 2 ^ 64 → enter_row layout old lp.0 ≡ Ok → EntersAt layout lp.0 (saved_in layout old) v old new
         → IsMove layout old new (Eenter lp v) Ok None }
-    ensures refused { (layout : Layout.Layout) (old : State) (lp : Lp) (v : ℕ) (a : Answer) → entering_walks layout.build ≡ true
+    ensures refused { (layout : Layout.Layout) (old : State) (lp : Lp) (v : ℕ) (a : Answer)
         → is_done a ≡ false → enter_row layout old lp.0 ≡ a → IsMove layout old old (Eenter lp v) a None }
 {}
 
 /// So is a resuming.
 pub fn resume_moves()
-    ensures done { (layout : Layout.Layout) (old new : State) (lp : Lp) → entering_walks layout.build ≡ true
+    ensures done { (layout : Layout.Layout) (old new : State) (lp : Lp)
         → resume_row layout old lp.0 ≡ Ok → ResumesAt layout lp.0 (saved_in layout old - 1) old new
         → IsMove layout old new (Eresume lp) Ok None }
-    ensures refused { (layout : Layout.Layout) (old : State) (lp : Lp) (a : Answer) → entering_walks layout.build ≡ true
+    ensures refused { (layout : Layout.Layout) (old : State) (lp : Lp) (a : Answer)
         → is_done a ≡ false → resume_row layout old lp.0 ≡ a → IsMove layout old old (Eresume lp) a None }
 {}
 

@@ -1,5 +1,6 @@
 // Laws on the journal of moves from the build: it is sound.
 ghost use Rattle.ak_core.specs.Layout.{IsValid};
+ghost use Rattle.ak_core.specs.Mem.{Access};
 ghost use Rattle.ak_core.specs.declared.event.Event.{Event};
 ghost use Rattle.ak_core.specs.declared.moves.Answer.{Answer};
 ghost use Rattle.ak_core.specs.declared.moves.Move.{Move};
@@ -19,6 +20,7 @@ ghost use Rattle.ak_relation.specs.Relation.Causes.{NamesMoveCause};
 ghost use Rattle.ak_relation.specs.Relation.Journals.{HasJournal, StopNamesBreak};
 ghost use Rattle.ak_relation.specs.Relation.Keeping.{HasOneMore, KeepsJournal};
 ghost use Rattle.ak_relation.specs.Relation.Stopping.{stop_by};
+ghost use Rattle.ak_relation.specs.Relation.Tells.{TellsMove};
 ghost use Rattle.ak_relation.specs.State.MachineState.{State};
 ghost use Rattle.std.specs.Prelude.{List, None, Option, [], length, ℕ, ◌*◌, ◌∷◌, ◌≡◌};
 ghost use Rattle.ak_core.specs.Journal;
@@ -81,5 +83,15 @@ pub fn breaks_stay_named()
         → HasOneMore layout past m a event outcome before after
         → StopNamesBreak layout (runs_of layout image before) (turns_of layout before) before.stop
         → (before.stop ≡ None → StopNamesBreak layout (runs_of layout image after) (turns_of layout after) (stop_by layout past outcome))
+        → StopNamesBreak layout (runs_of layout image after) (turns_of layout after) after.stop }
+{}
+
+/// So it does after each move that tells what its last turn tells: where the enclave dies of a break, the stop of the move names the access
+/// that the runtime found in the saved frame, and that one forced the break.
+pub fn stops_name_breaks()
+    ensures { (layout : Layout.Layout) (image : List ℕ) (past : History) (m : Move) (a : Answer) (event : Option Event) (noted : Option Access) (outcome : RtTurn) (old new : State) (before after : Journal.Journal)
+        → KeepsJournal layout image past old before → NamesMoveCause layout old new m a event outcome
+        → TellsMove layout old new m a event noted outcome → HasOneMore layout past m a event outcome before after
+        → StopNamesBreak layout (runs_of layout image before) (turns_of layout before) before.stop
         → StopNamesBreak layout (runs_of layout image after) (turns_of layout after) after.stop }
 {}

@@ -13,7 +13,6 @@ ghost use Rattle.ak_model.specs.Control.Answers.{answer};
 ghost use Rattle.ak_model.specs.Control.ControlState.{Control};
 ghost use Rattle.ak_model.specs.Kernels.Repeats.{is_done};
 ghost use Rattle.ak_model.specs.Laws.Presence.{IsPresent};
-ghost use Rattle.ak_model.specs.Paging.Build.{known_pages};
 ghost use Rattle.ak_model.specs.Paging.Histories.{History, change};
 ghost use Rattle.ak_model.specs.Paging.Pages.{all_pages};
 ghost use Rattle.ak_model.specs.Laws.OpenFrames.{KeepsOpen};
@@ -30,7 +29,7 @@ ghost use Rattle.ak_relation.specs.State.Tables.{TablesStand};
 ghost use Rattle.ak_model.specs.Laws.SameViews.{SameView};
 ghost use Rattle.ak_model.specs.Paging.Views.{View, view_of};
 ghost use Rattle.ak_model.specs.Control.LeafRows.{is_leaf, leaf_row};
-ghost use Rattle.std.specs.Prelude.{List, None, false, nat_lt, true, ℕ, ◌<◌, ◌≡◌};
+ghost use Rattle.std.specs.Prelude.{List, None, false, nat_lt, true, ℕ, ◌≡◌};
 ghost use Rattle.ak_core.specs.Layout;
 
 /// Where the tables stand, the machine's own view agrees with that of the history in all that rows read, so that the row over it is
@@ -89,13 +88,12 @@ pub fn page_moves()
 /// Setting and reading an entry of the page table are moves, and so is each of them where it is refused.
 pub fn page_table_moves()
     ensures set { (layout : Layout.Layout) (old : State) (p : Page) (f : Frame) (flags : Flags)
-        → nat_lt p.0 (known_pages layout.build layout) ≡ true
+        → nat_lt p.0 (all_pages layout) ≡ true
         → IsMove layout old (with_mapping old p.0 (record { frame = f.0; flags = flags })) (SetPte p f flags) Ok None }
     ensures set_refused { (layout : Layout.Layout) (old : State) (p : Page) (f : Frame) (flags : Flags)
-        → nat_lt p.0 (known_pages layout.build layout) ≡ false → IsMove layout old old (SetPte p f flags) NoPage None }
+        → nat_lt p.0 (all_pages layout) ≡ false → IsMove layout old old (SetPte p f flags) NoPage None }
     ensures read { (layout : Layout.Layout) (old : State) (p : Page)
-        → nat_lt p.0 (known_pages layout.build layout) ≡ true → p.0 < all_pages layout
-        → IsMove layout old old (ReadPte p) (pte_answer (old.table p.0)) None }
+        → nat_lt p.0 (all_pages layout) ≡ true → IsMove layout old old (ReadPte p) (pte_answer (old.table p.0)) None }
     ensures read_refused { (layout : Layout.Layout) (old : State) (p : Page)
-        → nat_lt p.0 (known_pages layout.build layout) ≡ false → IsMove layout old old (ReadPte p) NoPage None }
+        → nat_lt p.0 (all_pages layout) ≡ false → IsMove layout old old (ReadPte p) NoPage None }
 {}

@@ -1,6 +1,7 @@
 // Laws on the turns of the program, and on the values that a program has.
 ghost use Rattle.ak_core.specs.Layout.{IsValid};
 ghost use Rattle.ak_core.specs.Mem.{Access};
+ghost use Rattle.ak_core.specs.declared.event.Event.{Event};
 ghost use Rattle.ak_core.specs.declared.event.Event.TheVariants.{Break, Call, Miss, Trap};
 ghost use Rattle.ak_core.specs.declared.moves.Exit.{Exit};
 ghost use Rattle.ak_core.specs.declared.registers.Mode.{Mode};
@@ -17,7 +18,9 @@ ghost use Rattle.ak_model.specs.Paging.Pages.{cluster_at, pages};
 ghost use Rattle.ak_model.specs.Tapes.ProgramTurns.{ProgramTurn};
 ghost use Rattle.ak_relation.specs.Premises.CallingOut.{ShowsCall, walked_fill};
 ghost use Rattle.ak_relation.specs.Premises.Computing.{ShowsComputed};
-ghost use Rattle.ak_relation.specs.Premises.Faulting.{AreWalked, SavesFirst, ShowsFault, ShowsTrap};
+ghost use Rattle.ak_relation.specs.Premises.Faulting.{AreWalked, SavesFirst, ShowsDenied, ShowsFault, ShowsTrap};
+ghost use Rattle.ak_pager.specs.declared.turn.RtTurn.{RtTurn};
+ghost use Rattle.ak_relation.specs.Program.FaultedTurns.{fault_event, is_of_access};
 ghost use Rattle.ak_relation.specs.Program.FlatFits.{AreBytes, EndKeeps, FlatFits};
 ghost use Rattle.ak_relation.specs.Program.FlatPlaces.{IsAtBy};
 ghost use Rattle.ak_model.specs.Laws.OwedAnswers.{Owing};
@@ -25,13 +28,14 @@ ghost use Rattle.ak_relation.specs.Program.Reaching.{AreReached, is_filled};
 ghost use Rattle.ak_relation.specs.Program.Seeing.{Sees};
 ghost use Rattle.ak_relation.specs.Relation.Does.{IsTurn, at_moment};
 ghost use Rattle.ak_relation.specs.Relation.Stands.{Stands};
+ghost use Rattle.ak_relation.specs.Relation.Tells.{TellsTurn};
 ghost use Rattle.ak_tlb.specs.Fills.{Fill};
 ghost use Rattle.ak_relation.specs.State.MachineState.{State};
 ghost use Rattle.ak_relation.specs.State.MachineView.{held_in};
 ghost use Rattle.ak_ssa.specs.SavedFrames.{ByPage, ByVector};
 ghost use Rattle.ak_ssa.specs.SavedRegisters.{AreRegs, AreWords};
 ghost use Rattle.ak_relation.specs.State.Tables.{TablesStand};
-ghost use Rattle.std.specs.Prelude.{List, None, Some, false, length, map, true, ℕ, ◌*◌, ◌++◌, ◌||◌, ◌≡◌, ◌≢◌, ◌≤◌};
+ghost use Rattle.std.specs.Prelude.{List, None, Option, Some, false, length, map, true, ℕ, ◌*◌, ◌++◌, ◌||◌, ◌≡◌, ◌≢◌, ◌≤◌};
 ghost use Rattle.ak_core.specs.Layout;
 
 /// Where the relation holds and a processor is inside in the program's mode, it sees the program at the flat state.
@@ -111,4 +115,17 @@ pub fn pages_away_stay()
         → fills ≡ map (walked_fill old) walked ++ (old.processors lp).fills
         → ((t : Access) → is_filled fills t ≡ (is_among (line layout flat).accesses t || is_filled (old.processors lp).fills t))
         → (p : ℕ) → ((f : ℕ) → held_in (entry_at old.entries f) ≡ PageFrame p → ⊥) → page_bytes flat p ≡ page_bytes after p }
+{}
+
+/// A turn of the program that faults tells the access by which it did: one that its page's permission denies, or one that may fault and is
+/// not surely cached. Each other turn of the program tells none.
+pub fn program_notes()
+    ensures faults { (layout : Layout.Layout) (lp : ℕ) (old : State) (access : Access)
+        → (old.processors lp).regs.mode ≡ Mode.Program → ShowsFault layout lp old access
+        → TellsTurn layout lp old (Some (fault_event layout old.queue old.count access)) (Some access) RtTurn.Go }
+    ensures denied { (layout : Layout.Layout) (lp : ℕ) (old : State) (access : Access)
+        → (old.processors lp).regs.mode ≡ Mode.Program → ShowsDenied layout lp old access
+        → TellsTurn layout lp old (Some (fault_event layout old.queue old.count access)) (Some access) RtTurn.Go }
+    ensures others { (layout : Layout.Layout) (lp : ℕ) (old : State) (event : Option Event)
+        → (old.processors lp).regs.mode ≡ Mode.Program → is_of_access event ≡ false → TellsTurn layout lp old event None RtTurn.Go }
 {}

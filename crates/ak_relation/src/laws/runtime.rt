@@ -2,7 +2,6 @@
 ghost use Rattle.ak_core.specs.Layout.{IsValid};
 ghost use Rattle.ak_core.specs.declared.page.Lp.{Lp};
 ghost use Rattle.ak_model.specs.Control.ControlState.{Context, Control};
-ghost use Rattle.ak_model.specs.Paging.Build.{steps_walk};
 ghost use Rattle.ak_model.specs.Paging.Frames.{held};
 ghost use Rattle.ak_model.specs.Paging.Histories.{History};
 ghost use Rattle.ak_model.specs.Paging.Holdings.{VaFrame};
@@ -15,6 +14,7 @@ ghost use Rattle.ak_relation.specs.Premises.Works.{IsMemory, IsStep, Writes, Wri
 ghost use Rattle.ak_relation.specs.Relation.Causes.{NamesCause};
 ghost use Rattle.ak_relation.specs.Relation.Does.{IsTurn, at_moment};
 ghost use Rattle.ak_relation.specs.Relation.Stands.{Stands};
+ghost use Rattle.ak_relation.specs.Relation.Tells.{TellsTurn};
 ghost use Rattle.ak_relation.specs.State.MachineState.{State};
 ghost use Rattle.ak_relation.specs.State.Tables.{TablesStand};
 ghost use Rattle.std.specs.Prelude.{Bool, List, None, Some, true, ℕ, ◌≡◌};
@@ -29,13 +29,16 @@ pub fn steps_are_defined()
         → MayStep layout control context stands.bytes.flat (state.processors lp).regs (memory_of holds bytes) }
 {}
 
-/// A turn in the runtime's mode is a turn of the definitions, in each valid layout whose runtime's steps walk: with its row, or with
-/// the fault of a refused access; and the cause of death after it is the one that its outcome names.
+/// A turn in the runtime's mode is a turn of the definitions, in each valid layout: with its row, or with the fault of a refused access;
+/// the cause of death after it is the one that its outcome names; and it tells the access that was refused, and the access of the break
+/// for which the enclave dies.
 pub fn valid_turns()
-    ensures turn { (layout : Layout.Layout) (lp : Lp) (old new : State) (outcome : RtTurn) → IsValid layout → steps_walk layout.build ≡ true
+    ensures turn { (layout : Layout.Layout) (lp : Lp) (old new : State) (outcome : RtTurn) → IsValid layout
         → ShowsStep layout lp.0 old new outcome → IsTurn layout lp.0 old new (exit_of layout outcome) None }
-    ensures cause { (layout : Layout.Layout) (lp : Lp) (old new : State) (outcome : RtTurn) → IsValid layout → steps_walk layout.build ≡ true
+    ensures cause { (layout : Layout.Layout) (lp : Lp) (old new : State) (outcome : RtTurn) → IsValid layout
         → ShowsStep layout lp.0 old new outcome → NamesCause layout lp.0 old new (exit_of layout outcome) None outcome }
+    ensures notes { (layout : Layout.Layout) (lp : Lp) (old new : State) (outcome : RtTurn) → IsValid layout
+        → ShowsStep layout lp.0 old new outcome → TellsTurn layout lp.0 old None None outcome }
 {}
 
 /// A memory over the frames that the page table names is one over the pages, and leaves the frames of slots.

@@ -17,7 +17,7 @@ use Rattle.ak_model.specs.Misses.Reached.{permitted_accesses}
 use Rattle.ak_model.specs.Paging.Pages.{pages}
 use Rattle.ak_pte.specs.declared.table.Pte.{Pte}
 use Rattle.ak_relation.proofs.Exits.WalkedReached.{among_all}
-use Rattle.ak_relation.specs.Premises.Faulting.{ShowsTrap, ShowsFault}
+use Rattle.ak_relation.specs.Premises.Faulting.{IsNext, ShowsDenied, ShowsFault, ShowsTrap}
 use Rattle.ak_relation.specs.Program.Seeing.{Sees}
 use Rattle.ak_relation.specs.State.MachineState.{State}
 use Rattle.ak_tlb.proofs.Counted.{few_less}
@@ -181,25 +181,40 @@ module _ (layout : Layout) (cpu : Cpu) (table : List Pte) (encls : Enclave) (k :
       by_test false e = e
       by_test true e = absurd (let own = among_all (is_granted encls.entries table cpu.tlb) granted t all e in cc)
 
+  -- it comes next
+  next_there : (t : Access) → Does (λ flat. Refuses (line layout flat) t granted) → (flat : Flat) → Sees layout state cpu.lp.0 flat
+      → (next : IsNext layout state (state.processors cpu.lp.0).fills flat t) × (take next.number (line layout flat).accesses ≡ granted)
+  next_there t does flat sees =
+      let refuses = does flat (sym sees.regs ∙ m.processor.regs) (shows layout cpu table encls k state m flat sees) in
+      let low : AllLow layout (granted ++ t ∷ refuses.rest) = subst (AllLow layout) refuses.next (line_low layout flat) in
+      let front : take (length granted) (line layout flat).accesses ≡ granted = ap (take (length granted)) refuses.next ∙ take-append_seam granted (t ∷ refuses.rest) in (
+        record {
+          number = length granted;
+          stands = ap (λ accesses. slice_get accesses (length granted)) refuses.next ∙ next_is granted refuses.rest t;
+          allowed = ap (list_all (λ u. not (is_forbidden layout u))) front ∙ all_allowed layout cpu table encls k granted all (front_low layout granted (t ∷ refuses.rest) low);
+          walked = walked_of cpu.tlb granted;
+          found = are_walked layout cpu table encls k state m granted (walked_of cpu.tlb granted) (front_low layout granted (t ∷ refuses.rest) low) those;
+          covers = λ u some.
+              covered cpu.tlb (state.processors cpu.lp.0).fills m.processor.fills encls.entries table granted (walked_of cpu.tlb granted) those u
+              (ap (λ accesses. is_among accesses u) (sym front) ∙ some);
+        },
+        front,
+      )
+
   pub shows_fault : (t : Access) → is_forbidden layout t ≡ false → is_granted encls.entries table cpu.tlb t ≡ false → Does (λ flat. Refuses (line layout flat) t granted)
       → ShowsFault layout cpu.lp.0 state t
   shows_fault t permitted refused does flat sees =
-      let refuses = does flat (sym sees.regs ∙ m.processor.regs) (shows layout cpu table encls k state m flat sees) in
-      let low : AllLow layout (granted ++ t ∷ refuses.rest) = subst (AllLow layout) refuses.next (line_low layout flat) in
-      let l : t.page.0 < pages layout = next_low layout granted refuses.rest t low in
-      let front : take (length granted) (line layout flat).accesses ≡ granted = ap (take (length granted)) refuses.next ∙ take-append_seam granted (t ∷ refuses.rest) in
+      let next = next_there t does flat sees in
+      let l : t.page.0 < pages layout = refused_low t does flat sees in
       let neither = refused_neither encls.entries table cpu.tlb t refused in
       record {
-        number = length granted;
-        stands = ap (λ accesses. slice_get accesses (length granted)) refuses.next ∙ next_is granted refuses.rest t;
+        next = next.0;
         permitted = permitted;
         unmapped = sym (walked_in layout cpu table encls k state m t (omega arith)) ∙ neither.1;
-        allowed = ap (list_all (λ u. not (is_forbidden layout u))) front ∙ all_allowed layout cpu table encls k granted all (front_low layout granted (t ∷ refuses.rest) low);
-        walked = walked_of cpu.tlb granted;
-        found = are_walked layout cpu table encls k state m granted (walked_of cpu.tlb granted) (front_low layout granted (t ∷ refuses.rest) low) those;
-        covers = λ u some.
-            covered cpu.tlb (state.processors cpu.lp.0).fills m.processor.fills encls.entries table granted (walked_of cpu.tlb granted) those u
-            (ap (λ accesses. is_among accesses u) (sym front) ∙ some);
-        unkept = ap (λ accesses. is_kept (accesses_of (state.processors cpu.lp.0).fills ++ accesses) t) front
+        unkept = ap (λ accesses. is_kept (accesses_of (state.processors cpu.lp.0).fills ++ accesses) t) next.1
             ∙ unkept cpu.tlb (state.processors cpu.lp.0).fills granted t m.processor.fills neither.0 (refused_apart t refused);
       }
+
+  -- a denied access comes next, too
+  pub shows_refusal : (t : Access) → is_forbidden layout t ≡ true → Does (λ flat. Refuses (line layout flat) t granted) → ShowsDenied layout cpu.lp.0 state t
+  shows_refusal t forbidden does = (forbidden, λ flat sees. (next_there t does flat sees).0)

@@ -29,9 +29,13 @@ use Rattle.ak_relation.proofs.Runs.NamedMoves.{program_names}
 use Rattle.ak_relation.specs.Bytes.Pages.{IsTcs}
 use Rattle.ak_relation.specs.Premises.Faulting.{SavesFirst, ShowsFault, ShowsTrap}
 use Rattle.ak_relation.specs.Premises.Saving.{Saves}
+use Rattle.ak_relation.specs.Program.FaultedTurns.{fault_event}
 use Rattle.ak_relation.specs.Program.Seeing.{Sees}
 use Rattle.ak_relation.specs.Relation.Does.{IsTurn}
 use Rattle.ak_relation.specs.Relation.HeldFrames.{HoldsFrames}
+use Rattle.ak_relation.specs.Relation.Tells.{TellsTurn}
+use Rattle.ak_relation.proofs.Exits.ToldFaults.{fault_tells, denied_tells, other_tells}
+use Rattle.ak_pager.specs.declared.turn.RtTurn.{RtTurn}
 use Rattle.ak_relation.specs.State.MachineState.{State}
 use Rattle.ak_ssa.specs.FramesFit.{CauseFits}
 use Rattle.ak_ssa.specs.SavedFrames.{SavedCause, ByPage, ByVector, why_of}
@@ -46,12 +50,12 @@ use Rattle.ak_enclu.specs.declared.cpu.Cpu.{Cpu}
 use Rattle.ak_memory.specs.Granting.{in_use, walked_of, fill_by}
 use Rattle.ak_memory.specs.declared.memory.Memory.{Memory}
 use Rattle.ak_turns.specs.Instructing.{memory_bytes, granted_in, Instructs}
-use Rattle.ak_turns.specs.Running.{IsRunning, Runs, TurnsTo, event_of, fault_event}
+use Rattle.ak_turns.specs.Running.{IsRunning, Runs, TurnsTo, event_of, fault_in}
 use Rattle.ak_turns.specs.declared.notes.ProgramNote.{ProgramNote}
 use Rattle.ak_turns.specs.declared.notes.RuntimeNote.{RuntimeNote}
 use Rattle.ak_turns.specs.declared.notes.Turned.{Turned}
 use Rattle.ak_turns.proofs.ProgramTurns.Completed.{completed, completed_machine, shows_computed, shows_call, call_frames}
-use Rattle.ak_turns.proofs.ProgramTurns.Ended.{shows_vector, shows_denied, refused_low, shows_fault}
+use Rattle.ak_turns.proofs.ProgramTurns.Ended.{shows_vector, shows_denied, refused_low, shows_fault, shows_refusal}
 use Rattle.ak_turns.proofs.ProgramTurns.Machines.{stepped_other}
 use Rattle.ak_turns.proofs.ProgramTurns.Showing.{page_in_frame, shows}
 use Rattle.ak_turns.proofs.ProgramTurns.Walks.{IsKnown, known, entered}
@@ -148,6 +152,7 @@ module _ (layout : Layout) (cpu : Cpu) (memory : Memory) (runs : Runs layout cpu
           queue = λ goes. refl;
           turn = turn;
           cause = program_names layout cpu.lp.0 state end None None (state_mode state m) turn;
+          notes = other_tells layout cpu.lp.0 state (state_mode state m) None refl;
         }
 
     pub turned_called : (b a : ℕ) → Instructs layout (Turn.Called b a) cpu.regs regs memory mid → (state : State) → IsRunning layout cpu memory state
@@ -173,6 +178,7 @@ module _ (layout : Layout) (cpu : Cpu) (memory : Memory) (runs : Runs layout cpu
           queue = λ goes. refl;
           turn = turn;
           cause = program_names layout cpu.lp.0 state end None (Some (Call state.count b a)) (state_mode state m) turn;
+          notes = other_tells layout cpu.lp.0 state (state_mode state m) (Some (Call state.count b a)) refl;
         }
 
   -- ---- An exit
@@ -269,8 +275,8 @@ module _ (layout : Layout) (cpu : Cpu) (memory : Memory) (runs : Runs layout cpu
     turned_left : (exit : Exit) (note : ProgramNote) (event : Event) (state : State) → IsRunning layout cpu memory state → refuses (why_of layout cause) ≡ true
         → event_of layout state.queue state.count note ≡ Some event
         → ((end : State) → SavesFirst layout cpu.lp.0 state end cause → IsTurn layout cpu.lp.0 state end (Some exit) (Some event))
-        → TurnsTo layout cpu.lp.0 state (ended_turn exit note) left new
-    turned_left exit note event state m refusing event_is law =
+        → TellsTurn layout cpu.lp.0 state (Some event) (fault_in note) RtTurn.Go → TurnsTo layout cpu.lp.0 state (ended_turn exit note) left new
+    turned_left exit note event state m refusing event_is law tells =
         let led = machine_left state m in
         let saved : Saves layout cpu.lp.0 0 true cause state led.state = subst (λ b. Saves layout cpu.lp.0 0 (b || false) cause state led.state) refusing led.does in
         let turn : IsTurn layout cpu.lp.0 state led.state (Some exit) (event_of layout state.queue state.count note) =
@@ -284,6 +290,7 @@ module _ (layout : Layout) (cpu : Cpu) (memory : Memory) (runs : Runs layout cpu
           queue = λ goes. let left : true ≡ false = ap is_some goes in cc;
           turn = turn;
           cause = program_names layout cpu.lp.0 state led.state (Some exit) (event_of layout state.queue state.count note) (state_mode state m) turn;
+          notes = subst (λ (x : Option Event). TellsTurn layout cpu.lp.0 state x (fault_in note) RtTurn.Go) (sym event_is) tells;
         }
 
   -- an instruction that traps
@@ -297,6 +304,7 @@ module _ (layout : Layout) (cpu : Cpu) (memory : Memory) (runs : Runs layout cpu
       turned_left mid (Turn.Trapped v) regs d d.same_bytes d.same_registers (ByVector v) fits.1 left new is to mapped flushed
       (Exit.Vector v) (ProgramNote.Trapped v) (Trap state.count v) state m refl refl
       (λ end saved. vector_turns layout runs.stands.inputs.valid cpu.lp.0 state end (state_mode state m) v shown fits.0 saved)
+      (other_tells layout cpu.lp.0 state (state_mode state m) (Some (Trap state.count v)) (grind (arith, nat_tests, fits.0)))
 
   -- an instruction whose access faults
   pub turned_faulted : (mid : Memory) (regs : Regs) (t : Access) (d : Instructs layout (Turn.Faulted t) cpu.regs regs memory mid) (left : Cpu) (new : Memory)
@@ -314,13 +322,18 @@ module _ (layout : Layout) (cpu : Cpu) (memory : Memory) (runs : Runs layout cpu
 
       by_event : (event : Event) → fault_event layout state.queue state.count t ≡ event
           → ((end : State) → SavesFirst layout cpu.lp.0 state end (ByPage t) → IsTurn layout cpu.lp.0 state end (Some (shown_fault layout)) (Some event))
+          → TellsTurn layout cpu.lp.0 state (Some (fault_event layout state.queue state.count t)) (Some t) RtTurn.Go
           → TurnsTo layout cpu.lp.0 state (ended_turn (shown_fault layout) (ProgramNote.Faulted t)) left new
-      by_event event event_is law =
+      by_event event event_is law tells =
           turned_left mid (Turn.Faulted t) regs d d.same_bytes d.same_registers (ByPage t) low_page left new is to mapped flushed
           (shown_fault layout) (ProgramNote.Faulted t) event state m refl (ap Some event_is) law
+          (subst (λ (x : Event). TellsTurn layout cpu.lp.0 state (Some x) (Some t) RtTurn.Go) event_is tells)
 
       faults : is_forbidden layout t ≡ false → ShowsFault layout cpu.lp.0 state t
       faults permitted = shows_fault layout own memory.table memory.encls k (granted_in mid) d.granted state m t permitted d.refused d.line_is
+
+      tells_fault : is_forbidden layout t ≡ false → TellsTurn layout cpu.lp.0 state (Some (fault_event layout state.queue state.count t)) (Some t) RtTurn.Go
+      tells_fault permitted = fault_tells layout cpu.lp.0 state (state_mode state m) t (faults permitted)
 
       event_by : (b c : Bool) → is_forbidden layout t ≡ b → is_in state.queue (cluster_at layout t.page.0) ≡ c
           → fault_event layout state.queue state.count t ≡ chosen_event state.count (cluster_at layout t.page.0) b c
@@ -333,9 +346,12 @@ module _ (layout : Layout) (cpu : Cpu) (memory : Memory) (runs : Runs layout cpu
           by_event (Trap state.count 14) (event_by true c forbidden inside)
           (λ end saved. denied_turns layout runs.stands.inputs.valid cpu.lp.0 state end (state_mode state m) t
           (shows_denied layout own memory.table memory.encls k (granted_in mid) d.granted state m t forbidden d.line_is) forbidden saved)
+          (denied_tells layout cpu.lp.0 state (state_mode state m) t (shows_refusal layout own memory.table memory.encls k (granted_in mid) d.granted state m t forbidden d.line_is))
       by_permission false true permitted inside =
           by_event (Break state.count) (event_by false true permitted inside)
           (λ end saved. break_turns layout runs.stands.inputs.valid cpu.lp.0 state end (state_mode state m) t (faults permitted) inside saved)
+          (tells_fault permitted)
       by_permission false false permitted out =
           by_event (Miss state.count (cluster_at layout t.page.0)) (event_by false false permitted out)
           (λ end saved. miss_turns layout runs.stands.inputs.valid cpu.lp.0 state end (state_mode state m) t (faults permitted) out saved)
+          (tells_fault permitted)

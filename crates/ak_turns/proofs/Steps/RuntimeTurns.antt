@@ -6,7 +6,6 @@ use Rattle.std.specs.List.{list_all}
 use Rattle.ak_core.specs.Layout.{Layout}
 use Rattle.ak_core.specs.Mem.{Access}
 use Rattle.ak_core.specs.declared.registers.Regs.{Regs}
-use Rattle.ak_model.specs.Paging.Build.{steps_walk}
 use Rattle.ak_model.specs.Paging.Pages.{all_pages}
 use Rattle.ak_pte.specs.declared.table.Pte.{Pte}
 use Rattle.ak_pager.specs.StepsTo.{MayStep, memory_of, StepsTo}
@@ -16,6 +15,7 @@ use Rattle.ak_ssa.specs.SavedRegisters.{AreRegs}
 use Rattle.ak_track.specs.Steps.{LeavesBy}
 use Rattle.ak_relation.proofs.Runtime.Allowed.{AtStep}
 use Rattle.ak_relation.proofs.Runtime.StepPages.{low_access}
+use Rattle.ak_relation.proofs.Runtime.ToldSteps.{step_tells}
 use Rattle.ak_relation.proofs.Runtime.ValidTurns.{valid_turns, valid_causes}
 use Rattle.ak_relation.specs.Bytes.Pages.{IsTcs}
 use Rattle.ak_relation.specs.Premises.Saving.{Saves}
@@ -23,6 +23,7 @@ use Rattle.ak_relation.specs.Premises.Shows.{ShowsStep}
 use Rattle.ak_relation.specs.Premises.Works.{Quits, Ends, exit_of}
 use Rattle.ak_relation.specs.Relation.Causes.{NamesCause}
 use Rattle.ak_relation.specs.Relation.Does.{IsTurn}
+use Rattle.ak_relation.specs.Relation.Tells.{TellsTurn}
 use Rattle.ak_relation.specs.State.MachineState.{State}
 use Rattle.ak_encls.specs.Enclave.{Enclave, frame_at}
 use Rattle.ak_enclu.proofs.Left.{saves}
@@ -41,7 +42,7 @@ use Rattle.ak_turns.proofs.Steps.Walking.{walked_seen}
 use Rattle.ak_turns.proofs.Steps.WrittenFrames.{frames_stay, changed}
 
 -- a turn in the runtime's mode: it leads to a machine of this processor, page table and enclave, is one of the definitions, and the cause
--- after it is the one that its outcome names
+-- after it is the one that its outcome names; and it tells what its outcome says
 pub record StepTurns (layout : Layout) (lp : ℕ) (old : State) (outcome : RtTurn) (cpu : Cpu) (table : List Pte) (encls : Enclave) : Type 0 where
   pub new : State
   pub machine : IsMachine layout cpu table encls new
@@ -50,6 +51,7 @@ pub record StepTurns (layout : Layout) (lp : ℕ) (old : State) (outcome : RtTur
   pub queue : exit_of layout outcome ≡ None → new.queue ≡ old.queue
   pub turn : IsTurn layout lp old new (exit_of layout outcome) None
   pub cause : NamesCause layout lp old new (exit_of layout outcome) None outcome
+  pub notes : TellsTurn layout lp old None None outcome
 
 -- these accesses are of pages that are seen
 all_held : (encls : Enclave) (table : List Pte) (granted : List Access) → list_all (is_walked encls.entries table) granted ≡ true → AreHeld (λ p. is_seen encls.entries table [] p) granted
@@ -58,7 +60,7 @@ all_held encls table (t ∷ granted) all =
     let parts = and_parts (is_walked encls.entries table t) (list_all (is_walked encls.entries table) granted) all in
     (walked_seen encls.entries table t parts.0, all_held encls table granted parts.1)
 
-module _ (layout : Layout) (cpu : Cpu) (memory : Memory) (r : Runs layout cpu memory) (walks : steps_walk layout.build ≡ true) (new : Enclave) (outcome : RtTurn) (regs : Regs)
+module _ (layout : Layout) (cpu : Cpu) (memory : Memory) (r : Runs layout cpu memory) (new : Enclave) (outcome : RtTurn) (regs : Regs)
     (s : HasStepped layout (record cpu { tlb = memory.tlb }) memory.table memory.encls new outcome regs) where
   -- the processor with what it has cached, before and after
   abbrev before : Cpu
@@ -107,8 +109,9 @@ module _ (layout : Layout) (cpu : Cpu) (memory : Memory) (r : Runs layout cpu me
       others = others;
       count = count;
       queue = queue;
-      turn = valid_turns layout (valid layout cpu memory r) walks cpu.lp state end outcome shows;
-      cause = valid_causes layout (valid layout cpu memory r) walks cpu.lp state end outcome shows;
+      turn = valid_turns layout (valid layout cpu memory r) cpu.lp state end outcome shows;
+      cause = valid_causes layout (valid layout cpu memory r) cpu.lp state end outcome shows;
+      notes = step_tells layout (valid layout cpu memory r) cpu.lp state end outcome shows;
     }
 
     -- ---- The processor goes on

@@ -16,6 +16,7 @@ use Rattle.ak_pager.specs.declared.turn.RtTurn.{RtTurn}
 use Rattle.ak_relation.specs.Premises.Works.{exit_of}
 use Rattle.ak_relation.specs.Relation.Causes.{NamesCause}
 use Rattle.ak_relation.specs.Relation.Does.{IsTurn}
+use Rattle.ak_relation.specs.Relation.Tells.{TellsTurn}
 use Rattle.ak_relation.specs.State.MachineState.{State}
 use Rattle.ak_tlb.specs.declared.translation.Translation.{Translation}
 use Rattle.ak_encls.specs.Enclave.{Enclave, frame_at}
@@ -127,8 +128,9 @@ module _ (layout : Layout) (cpu : Cpu) (memory : Memory) (r : Runs layout cpu me
 pub turned_to : (layout : Layout) (lp : ℕ) (old : State) (outcome : RtTurn) (cpu : Cpu) (memory : Memory) (exit : Option Exit) (note : RuntimeNote)
     → StepTurns layout lp old outcome (record cpu { tlb = memory.tlb }) memory.table memory.encls → exit ≡ exit_of layout outcome
     → ((new : State) → NamesCause layout lp old new (exit_of layout outcome) None outcome → NamesCause layout lp old new (exit_of layout outcome) None (outcome_of note))
+    → (TellsTurn layout lp old None None outcome → TellsTurn layout lp old None None (outcome_of note))
     → TurnsTo layout lp old (record { exit = exit; completed = false; program = ProgramNote.Plain; runtime = note }) cpu memory
-turned_to layout lp old outcome cpu memory exit note t e named = record {
+turned_to layout lp old outcome cpu memory exit note t e named tells = record {
   new = t.new;
   machine = t.machine;
   others = t.others;
@@ -136,4 +138,5 @@ turned_to layout lp old outcome cpu memory exit note t e named = record {
   queue = λ goes. t.queue (sym e ∙ goes);
   turn = subst (λ x. IsTurn layout lp old t.new x None) (sym e) t.turn;
   cause = subst (λ x. NamesCause layout lp old t.new x None (outcome_of note)) (sym e) (named t.new t.cause);
+  notes = tells t.notes;
 }

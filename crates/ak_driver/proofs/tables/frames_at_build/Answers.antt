@@ -12,7 +12,7 @@ loop-f-preserved c =
       pages_are = old.pages_are;
       count_is = old.count_is;
       notes = subst (λ (l : List FrameNote). FramesUpTo l layout (c.loop-f.f + 1)) (sym c.in-Ok.ensures.items)
-          (one_more_frame c.loop-f.frames.items layout c.loop-f.f _ old.notes (c.held_at_build.ensures layout c.build.ensures old.pages_are) refl);
+          (one_more_frame c.loop-f.frames.items layout c.loop-f.f _ old.notes (c.held_at_build.ensures layout old.pages_are) refl);
     }
 
 pub returns-clause-frames : goal.returns-clause-frames
@@ -20,5 +20,4 @@ returns-clause-frames c =
     let old = c.loop-f.invariant in
     let count = old.count_is in
     let end = c.loop-f-test.false in
-    let all = old.pages_are in
     all_frames c.loop-f.frames.items c.args.layout.now c.loop-f.f old.notes (omega arith) (omega arith)

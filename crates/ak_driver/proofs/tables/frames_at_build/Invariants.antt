@@ -1,5 +1,4 @@
-use Rattle.std.proofs.Common.{◌≡◌, ◌≤◌, ◌+◌, length}
-use Rattle.std.specs.Prelude.{max}
+use Rattle.std.proofs.Common.{◌≡◌, ◌≤◌, length}
 use Rattle.ak_driver.proofs.Noting.AtBuild.{FramesUpTo}
 use Rattle.ak_driver.proofs.tables.frames_at_build.Given as goal
 
@@ -7,6 +6,6 @@ abbrev pub invariant-loop-f : goal.invariant-loop-f
 invariant-loop-f l = record {
   few : l.pages ≤ 512;
   pages_are : l.pages ≡ length l.layout.perms;
-  count_is : l.count ≡ max l.layout.frames (8 + l.pages);
+  count_is : l.count ≡ l.layout.frames;
   notes : FramesUpTo l.frames.items l.layout l.f;
 }

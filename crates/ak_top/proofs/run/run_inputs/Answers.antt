@@ -1,29 +1,40 @@
-use Rattle.std.proofs.Common.{◌≡◌, ◌+◌, List, length, ap, subst, sym, ◌∙◌}
-use Rattle.std.specs.Prelude.{IsTrue}
-use Rattle.std.specs.List.{list_all}
+use Rattle.std.proofs.Common.{arith, ap, ◌∙◌, subst}
 use Rattle.ak_core.specs.Layout.{Layout}
-use Rattle.ak_core.specs.declared.moves.Move.{Move}
-use Rattle.ak_image.specs.Image.{layout_of as image_layout}
-use Rattle.ak_machine.specs.Built.{IsBuilt}
-use Rattle.ak_machine.specs.Served.{is_served}
-use Rattle.ak_machine.specs.State.{state_of, layout_of}
-use Rattle.ak_top.specs.Journals.{IsJournalOn}
-use Rattle.ak_top.proofs.Signing.{signed_is, all_served}
+use Rattle.ak_image.specs.Image.{layout_of}
+use Rattle.ak_model.specs.Sound.SoundJournal.{Sound}
+use Rattle.ak_run.proofs.Sound.{faithful_sound}
+use Rattle.ak_top.specs.Follows.{Follows}
+use Rattle.ak_top.proofs.Frames.{few_handles}
+use Rattle.ak_top.proofs.Signing.{signed_is}
 use Rattle.ak_top.proofs.run.run_inputs.Goals as goal
 
-pub run_moves-requires-clause-served : goal.run_moves-requires-clause-served
-run_moves-requires-clause-served c =
-    let one : (layout_of c.in_ok-machine.machine).lps ≡ 1 = ap (λ (layout : Layout). layout.lps) c.in_ok-machine.ensures.layout in
-    let P : List Move → Type 0 = λ moves. IsTrue (list_all (is_served (layout_of c.in_ok-machine.machine)) moves) in
-    subst P (sym c.moves.ensures.value) (all_served (layout_of c.in_ok-machine.machine) one c.args.inputs.now.script c.moves.ensures.limits.spelled)
+pub run_script-requires-clause-handles : goal.run_script-requires-clause-handles
+run_script-requires-clause-handles c =
+    let inputs = c.args.inputs.now in
+    let built = c.in_ok-machine.ensures in
+    let few = few_handles inputs.image inputs.image.bytes _ _ c.in_ok-machine.machine c.frames_of-frames.ensures.whole built.layout built.built in omega arith
+
+pub run_script-requires-clause-cycles : goal.run_script-requires-clause-cycles
+run_script-requires-clause-cycles c =
+    let cycles = c.in_ok-machine.ensures.pages.cycles in
+    let few = c.frames_of-frames.ensures.whole.valid.few_pages in omega arith
 
 pub returns : goal.returns
 returns c =
     let inputs = c.args.inputs.now in
+    let image = inputs.image.bytes in
     let built = c.in_ok-machine.ensures in
-    let frames : 8 + c.pages-frames.result ≡ 8 + length inputs.image.perms = ap (λ n. 8 + n) c.pages-frames.ensures.pages in
-    let layout = built.layout ∙ ap (λ frames. image_layout inputs.image frames 1) frames in
-    let B : Layout → Type 0 = λ layout. IsBuilt layout inputs.image.bytes (state_of c.in_ok-machine.machine) in
-    let journal = c.in_ok-run_moves.ensures inputs.image.bytes (subst B (sym built.layout) built.built) in
-    let P : Layout → Type 0 = λ layout. IsJournalOn layout inputs.image.bytes inputs.script c.in_ok-run_moves.field-0 in
-    (signed_is inputs (λ e. let wrong = built.unknown.1 e in cc) (λ e. let wrong = built.unsigned.1 e in cc), subst P layout (rw c.moves.ensures.value at journal))
+    let run = c.in_ok-run_script.field-0 in
+    let ran = c.in_ok-run_script.ensures in
+    let layout = built.layout ∙ ap (λ frames. layout_of inputs.image frames c.args.asked.processors) c.frames_of-frames.ensures.value in
+    let faithful = ran.faithful image built.built in
+    let F : Layout → Type 0 = λ layout. Follows layout inputs.script run.journal in
+    let S : Layout → Type 0 = λ layout. Sound image layout run.journal in (
+      signed_is inputs (λ e. let wrong = built.unknown.1 e in cc) (λ e. let wrong = built.unsigned.1 e in cc),
+      record {
+        layout_is = ran.layout ∙ layout;
+        follows = subst F layout (ran.follows image built.built);
+        faithful = faithful;
+        sound = subst S (ran.layout ∙ layout) (faithful_sound image run faithful);
+      },
+    )

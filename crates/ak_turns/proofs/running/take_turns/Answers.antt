@@ -6,7 +6,7 @@ use Rattle.ak_turns.specs.Running.{TurnsTo, completed_in}
 use Rattle.ak_turns.specs.WholeRuns.{RunsSoFar, RunsWith, note_or}
 use Rattle.ak_turns.specs.declared.notes.ProgramNote.{ProgramNote}
 use Rattle.ak_turns.specs.declared.notes.Ran.{Ran}
-use Rattle.ak_turns.proofs.WholeRuns.{runs_with, follows, one_more, last_one, all_taken, runs_inside, is_below, still_on}
+use Rattle.ak_turns.proofs.WholeRuns.{no_fault_yet, runs_with, follows, one_more, last_one, all_taken, runs_inside, is_below, still_on}
 use Rattle.ak_turns.proofs.running.take_turns.Goals as goal
 
 pub returns-in-Some-clause-run : goal.returns-in-Some-clause-run
@@ -74,4 +74,5 @@ returns-clause-run c state m =
     let in_use : (state.processors first.lp.0).inside ≡ true = m.processor.inside ∙ runs_inside layout first c.args.memory.now c.requires.runs in
     let all : l._taken ≡ c.args.turns = omega arith in
     all_taken layout first.lp c.args.turns l.completed l.program state l.cpu l.memory
-    (subst (λ n. RunsSoFar layout first.lp.0 n state l.completed l.program l.cpu l.memory) all s) known in_use
+    (subst (λ n. RunsSoFar layout first.lp.0 n state l.completed l.program l.cpu l.memory) all s)
+    (no_fault_yet layout l.program l.cpu l.memory l.invariant.runs) known in_use

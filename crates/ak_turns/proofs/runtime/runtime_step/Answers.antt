@@ -12,34 +12,34 @@ use Rattle.ak_turns.proofs.runtime.runtime_step.Goals as goal
 
 pub leave-requires : goal.leave-requires
 leave-requires c =
-    let saved = may_be_saved c.args.layout.now c.args.cpu.now c.args.memory.now c.requires.runs c.requires.walks c.step.new.cpu c.step.new.memory c.step.result c.step.ensures.step c.step.ensures.cpu
+    let saved = may_be_saved c.args.layout.now c.args.cpu.now c.args.memory.now c.requires.runs c.step.new.cpu c.step.new.memory c.step.result c.step.ensures.step c.step.ensures.cpu
     c.in-Faulted.access c.in-Faulted.is in
     record { tcs = saved.tcs; area = saved.area; apart = saved.apart; saved = saved.saved }
 
 pub returns-in-Go-clause-turn : goal.returns-in-Go-clause-turn
 returns-in-Go-clause-turn c = λ state m.
     subst (λ (t : Turned). TurnsTo c.args.layout.now c.args.cpu.now.lp.0 state t c.step.new.cpu c.step.new.memory) (sym c.told.ensures)
-    (arm_goes c.args.layout.now c.args.cpu.now c.args.memory.now c.requires.runs c.requires.walks c.step.new.cpu c.step.new.memory c.step.result c.step.ensures.step c.step.ensures.cpu
+    (arm_goes c.args.layout.now c.args.cpu.now c.args.memory.now c.requires.runs c.step.new.cpu c.step.new.memory c.step.result c.step.ensures.step c.step.ensures.cpu
     c.step.ensures.table c.step.ensures.tlb state m c.in-Go.is)
 
 pub returns-in-Leave-clause-turn : goal.returns-in-Leave-clause-turn
 returns-in-Leave-clause-turn c = λ state m.
     subst (λ (t : Turned). TurnsTo c.args.layout.now c.args.cpu.now.lp.0 state t c.quit.new.cpu c.quit.new.memory) (sym c.told-in-Leave.ensures)
-    (arm_leaves c.args.layout.now c.args.cpu.now c.args.memory.now c.requires.runs c.requires.walks c.step.new.cpu c.step.new.memory c.step.result c.step.ensures.step c.step.ensures.cpu
+    (arm_leaves c.args.layout.now c.args.cpu.now c.args.memory.now c.requires.runs c.step.new.cpu c.step.new.memory c.step.result c.step.ensures.step c.step.ensures.cpu
     c.step.ensures.table c.step.ensures.tlb state m c.quit.new.cpu c.quit.new.memory c.quit.ensures.cpu c.quit.ensures.table c.quit.ensures.tlb c.quit.ensures.rest
     (λ lps marks holds. c.quit.ensures.track lps marks holds) c.in-Leave.exit c.in-Leave.is)
 
 pub returns-in-Dead-clause-turn : goal.returns-in-Dead-clause-turn
 returns-in-Dead-clause-turn c = λ state m.
     subst (λ (t : Turned). TurnsTo c.args.layout.now c.args.cpu.now.lp.0 state t c.quit-in-Dead.new.cpu c.quit-in-Dead.new.memory) (sym c.told-in-Dead.ensures)
-    (arm_dies c.args.layout.now c.args.cpu.now c.args.memory.now c.requires.runs c.requires.walks c.step.new.cpu c.step.new.memory c.step.result c.step.ensures.step c.step.ensures.cpu
+    (arm_dies c.args.layout.now c.args.cpu.now c.args.memory.now c.requires.runs c.step.new.cpu c.step.new.memory c.step.result c.step.ensures.step c.step.ensures.cpu
     c.step.ensures.table c.step.ensures.tlb state m c.quit-in-Dead.new.cpu c.quit-in-Dead.new.memory c.quit-in-Dead.ensures.cpu c.quit-in-Dead.ensures.table c.quit-in-Dead.ensures.tlb
     c.quit-in-Dead.ensures.rest (λ lps marks holds. c.quit-in-Dead.ensures.track lps marks holds) c.in-Dead.cause c.in-Dead.is)
 
 pub returns-in-Faulted-clause-turn : goal.returns-in-Faulted-clause-turn
 returns-in-Faulted-clause-turn c = λ state m.
     subst (λ (t : Turned). TurnsTo c.args.layout.now c.args.cpu.now.lp.0 state t c.leave.new.cpu c.leave.new.memory) (sym c.told-in-Faulted.ensures)
-    (arm_faults c.args.layout.now c.args.cpu.now c.args.memory.now c.requires.runs c.requires.walks c.step.new.cpu c.step.new.memory c.step.result c.step.ensures.step c.step.ensures.cpu
+    (arm_faults c.args.layout.now c.args.cpu.now c.args.memory.now c.requires.runs c.step.new.cpu c.step.new.memory c.step.result c.step.ensures.step c.step.ensures.cpu
     c.step.ensures.table c.step.ensures.tlb state m c.leave.new.cpu c.leave.new.memory c.leave.ensures.cpu c.leave.ensures.table c.leave.ensures.tlb
     c.in-Faulted.access c.fault_of.result c.mask.result c.in-Faulted.is c.fault_of.ensures (c.mask.ensures ∙ ap (λ base. Exit.Pf base 4) c.base.ensures.base) c.leave.ensures.leaves
     (record { sixteen = c.are_registers.ensures.sixteen; words = c.are_registers.ensures.words; rip = c.are_registers.ensures.rip }))

@@ -3,6 +3,6 @@ use Rattle.ak_relation.proofs.laws.entering.enter_moves.Goals as goal
 
 pub returns : goal.returns
 returns c = record {
-  done = λ layout old new lp v walks. moves layout walks old lp new v;
-  refused = λ layout old lp v a walks. enter_refused layout walks old lp v a;
+  done = λ layout old new lp v. moves layout old lp new v;
+  refused = λ layout old lp v a. enter_refused layout old lp v a;
 }

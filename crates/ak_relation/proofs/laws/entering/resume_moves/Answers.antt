@@ -3,6 +3,6 @@ use Rattle.ak_relation.proofs.laws.entering.resume_moves.Goals as goal
 
 pub returns : goal.returns
 returns c = record {
-  done = λ layout old new lp walks. moves layout walks old lp new;
-  refused = λ layout old lp a walks. resume_refused layout walks old lp a;
+  done = λ layout old new lp. moves layout old lp new;
+  refused = λ layout old lp a. resume_refused layout old lp a;
 }

@@ -1,25 +1,28 @@
-use Rattle.std.proofs.Common.{◌≡◌, ◌+◌, ◌∙◌, ap, sym}
+use Rattle.std.proofs.Common.{◌≡◌, sym, subst}
 use Rattle.ak_core.specs.Layout.{Layout}
-use Rattle.ak_core.specs.Journal.{with_more}
-use Rattle.ak_machine.specs.State.{state_of, layout_of}
-use Rattle.ak_machine.specs.Moves.{event_in}
-use Rattle.ak_top.proofs.Sessions.{one_more, same_lists}
+use Rattle.ak_driver.specs.Notes.{Notes}
+use Rattle.ak_model.specs.Paging.Histories.{History}
+use Rattle.ak_top.specs.Follows.{past_of}
+use Rattle.ak_top.proofs.Pasts.{one_more, may_come}
 use Rattle.ak_top.proofs.session.Session.apply.Goals as goal
 
-pub returns-clause-faithful : goal.returns-clause-faithful
-returns-clause-faithful c = λ image faithful.
-    let old = c.args.self.now in
-    let room = c.reserve.new.self in
-    let applied = c.apply-applied.result in
-    let machine = c.apply-applied.new.self in
-    let layout = layout_of old.machine in
-    let event = event_in layout applied.program (state_of machine).count in
-    let f = same_lists layout image (state_of old.machine) old.journal room c.reserve.ensures.same faithful in
-    let d = c.apply-applied.ensures.moved image f.past f.values room.outputs room.events f.stands in
-    let count : old.count + applied.completed ≡ (state_of machine).count = ap (λ n. n + applied.completed) old.counted ∙ sym c.apply-applied.ensures.completed in
-    let same : c.event_of-event.result ≡ event = c.event_of-event.ensures ∙ ap (λ (l : Layout). event_in l applied.program (old.count + applied.completed)) (c.layout.ensures ∙ c.apply-applied.ensures.layout) ∙ ap (event_in layout applied.program) count in
-    one_more layout image (state_of old.machine) (state_of machine) room c.args.m applied.answer event f d c.append.new.self
-    c.append.ensures.moves c.append.ensures.answers
-    (c.append.ensures.outputs ∙ ap (with_more room.outputs) c.output_of.ensures)
-    (c.append.ensures.events ∙ ap (with_more room.events) same)
-    c.append.ensures.stop
+pub returns-clause-stands : goal.returns-clause-stands
+returns-clause-stands c image before =
+    let old = c.args.self.now.run in
+    let new = c.apply.new.self in
+    let m = c.args.m in
+    let a = c.in_ok-answer.answer in
+    let made = c.in_ok-answer.ensures in
+    let after = c.apply.ensures.faithful image before.faithful in
+    let layout : new.machine.layout ≡ old.machine.layout = c.apply.ensures.layout in
+    let may = may_come image old new before.faithful after m a made.moves made.answers c.requires in
+    let N : Layout → Type 0 = λ layout. Notes c.args.self.now.driver layout (past_of old.journal) in
+    let told = c.note.ensures new.machine.layout (past_of old.journal) (subst N (sym layout) before.told) may in
+    let P : History → Type 0 = Notes c.note.new.self new.machine.layout in
+    record { faithful = after; told = subst P (sym (one_more image old new before.faithful after m a made.moves made.answers)) told }
+
+pub returns-clause-next : goal.returns-clause-next
+returns-clause-next c image before =
+    let made = c.in_ok-answer.ensures in
+    let after = c.apply.ensures.faithful image before.faithful in
+    (c.in_ok-answer.answer, one_more image c.args.self.now.run c.apply.new.self before.faithful after c.args.m c.in_ok-answer.answer made.moves made.answers)

@@ -1,0 +1,10 @@
+pub mod Sound
+mod Watching
+mod Serving
+mod Same
+mod Starting
+mod Concerned
+mod Marking
+mod Moving
+mod MarkedMoves
+mod Bounds

@@ -1,0 +1,4 @@
+pub mod Blaming
+pub mod Events
+pub mod Runs
+pub mod Watching

@@ -1,0 +1,1 @@
+"""Rewrites assembly of a C compiler into the instructions of docs/INSTRUCTIONS.md."""

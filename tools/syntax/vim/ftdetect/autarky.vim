@@ -1,0 +1,2 @@
+autocmd BufNewFile,BufRead *.script setfiletype autarky
+autocmd BufNewFile,BufRead *.report setfiletype autarky

@@ -1,0 +1,138 @@
+"""Tests of tools/predict: the examples, and the tables of calls in crates/cases."""
+import os
+import re
+from typing import Dict, Iterator, List, NamedTuple, Optional
+
+from formats.images import Image, Page, measurement
+from formats.refusals import Refusal
+from formats.scripts import read_script
+from tests.harness import TOP, Tally, call, examples
+from yardstick.areas import Watch
+from yardstick.machine import Run
+
+TABLES = os.path.join(TOP, "crates", "cases", "data")
+CONTEXTS = "contexts.txt"
+OTHERS = ("files.txt", "images.txt", CONTEXTS)
+BASE = 0x10000000
+FEWEST_CASES = 150
+
+
+class Case(NamedTuple):
+    """A run of a table: the name of the image, the options, the script, and the report with the status."""
+
+    image: str
+    options: List[str]
+    script: str
+    outcome: str
+
+
+def table(file: str) -> str:
+    """The text of a table."""
+    with open(os.path.join(TABLES, file), encoding="utf-8") as opened:
+        return opened.read()
+
+
+def pages_of(word: str) -> List[Page]:
+    """The pages of a word of the table of images."""
+    count, asterisk, page = word.rpartition("*")
+    perms, cluster, data = page.split(":")
+    zeros, _, digits = data.rpartition(".")
+    return (int(count) if asterisk else 1) * [Page(perms, cluster, bytes(int(zeros or 0)) + bytes.fromhex(digits))]
+
+
+def images() -> Dict[str, Image]:
+    found = {}
+    for line in table("images.txt").split("\n"):
+        if line and line[0] != "#":
+            name, budget, entry, *words = line.split(" ")
+            found[name] = Image(BASE, int(entry), int(budget), "lab", [page for word in words for page in pages_of(word)])
+    return found
+
+
+def case_of(text: str) -> Optional[Case]:
+    """The run of a case; none, where it is no run that gives a report, or one in which a fault of the outside comes."""
+    given, _, outcome = text.partition("\n> ")
+    lines = [line.split(" ", 1) for line in given.split("\n")]
+    words = next((rest[0].split(" ") for mark, *rest in lines if mark == "$"), [])
+    marks = {mark for mark, *_ in lines}
+    if not outcome.startswith("autarky 1\n") or marks - {"$", "#", "|"} or words[0] != "run" or "--" in words:
+        return None
+    script = [rest[0] for mark, *rest in lines if mark == "|"]
+    if script == [".."]:
+        script = re.findall(r"^\d+ (.*) -> ", outcome, re.MULTILINE)
+    options = re.findall(r"--\w+[ =]\d+", " ".join(words[1:]))
+    return Case(re.sub(r"--\w+[ =]\d+ ", "", " ".join(words[1:]) + " ").split(" ")[0], options, "\n".join(script) + "\n", outcome)
+
+
+def cases() -> Iterator["tuple[str, Case]"]:
+    for file in sorted(os.listdir(TABLES)):
+        if file not in OTHERS:
+            for number, text in enumerate(table(file).rstrip("\n").split("\n\n")[1:], 1):
+                case = case_of(text)
+                if case is not None:
+                    yield f"{file} {number}", case
+
+
+def predicted(image: Image, case: Case) -> str:
+    """What comes of a case, as the table tells it."""
+    options = {re.split("[ =]", option)[0][2:]: int(re.split("[ =]", option)[1]) for option in case.options}
+    run = Run(image, **options)
+    run.play(read_script(case.script.encode()))
+    return f"{run.report()}! = {0 if run.stop is None else 10}"
+
+
+def test_tables(tally: Tally) -> None:
+    found, count = images(), 0
+    for name, case in cases():
+        tally.equal(f"predict {name}", predicted(found[case.image], case), case.outcome)
+        count += 1
+    tally.holds("predict: the tables have many cases", count >= FEWEST_CASES)
+    signed = table("files.txt").lower()
+    for name, image in found.items():
+        tally.holds(f"measurement of {name}", measurement(image) in signed or name == "B3")
+
+
+def changed(image: Image, moves: List[str]) -> str:
+    """What each move changes in the pages of contexts, as the table tells it."""
+    run, lines = Watch(image, 16, 2), []
+    for number, move in enumerate(moves, 1):
+        run.play(read_script(f"{move}\n".encode()))
+        lines += [f"{number} {page} {place} {word}" for page, place, word in run.changes()]
+    return "\n".join(lines)
+
+
+def test_contexts(tally: Tally) -> None:
+    found = images()
+    for text in table(CONTEXTS).rstrip("\n").split("\n\n")[1:]:
+        given, _, outcome = text.partition("\n> ")
+        lines = given.split("\n")
+        moves = [line[2:] for line in lines if line.startswith("| ")]
+        tally.equal(f"contexts: {lines[1][2:]}", changed(found[lines[0][2:]], moves), outcome)
+
+
+def test_lines(tally: Tally) -> None:
+    """The lines of the table that are refused, and those that are taken."""
+    for text in table("script_lines.txt").rstrip("\n").split("\n\n")[1:]:
+        given, _, outcome = text.partition("\n> ")
+        script = [line[2:] for line in given.split("\n") if line.startswith("|")]
+        told = ""
+        try:
+            read_script("".join(f"{line}\n" for line in script).encode())
+        except Refusal as why:
+            told = why.line
+        wanted = outcome[2:].partition("\n")[0] if outcome.startswith("! ") else ""
+        tally.equal(f"script line {script[-1]}", told, wanted)
+
+
+def test_examples(tally: Tally) -> None:
+    for words, text, status in examples():
+        if words[0] == "run" and status not in (2, 3, 4):
+            told = call("predict", *words[1:])
+            tally.equal(f"predict as the program: {' '.join(words)}", (told.out, told.status), (text, status))
+
+
+def test(tally: Tally) -> None:
+    test_tables(tally)
+    test_contexts(tally)
+    test_lines(tally)
+    test_examples(tally)
