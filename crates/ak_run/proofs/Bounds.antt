@@ -12,8 +12,8 @@ use Rattle.ak_model.specs.Paging.Histories.{Change, Unchanged, Maps, Blocks, Cyc
 use Rattle.ak_model.specs.Paging.Pages.{all_pages}
 use Rattle.ak_model.specs.Stops.Blame.{faults}
 use Rattle.ak_encls.specs.Answering.{given_by, IsCounted}
-use Rattle.ak_paged_machine.specs.Moves.{Counts, Moves}
-use Rattle.ak_paged_machine.specs.declared.applied.Applied.{Applied}
+use Rattle.ak_machine.specs.Moves.{Counts, Moves}
+use Rattle.ak_machine.specs.declared.applied.Applied.{Applied}
 use Rattle.ak_run.specs.Runs.{IsBounded, RunParts}
 
 one_handle : (a : Answer) → given_by a ≤ 1

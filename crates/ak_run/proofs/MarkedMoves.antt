@@ -11,7 +11,7 @@ use Rattle.ak_model.specs.Paging.Pages.{all_pages}
 use Rattle.ak_model.specs.Stops.Blame.{enters_at_one, faults, resumes}
 use Rattle.ak_relation.specs.State.MachineState.{State}
 use Rattle.ak_relation.specs.State.Tables.{TablesStand}
-use Rattle.ak_paged_machine.specs.Machines.{IsState, Parts}
+use Rattle.ak_machine.specs.Machines.{IsState, Parts}
 use Rattle.ak_run.specs.Blaming.{Marked, Marks, access_number}
 use Rattle.ak_run.specs.Watching.{AreLeft, IsWatched, framed_by, named_by, watches}
 use Rattle.ak_run.specs.declared.watch.Watch.{Watch}

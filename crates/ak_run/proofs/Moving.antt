@@ -48,9 +48,9 @@ use Rattle.ak_turns.specs.Running.{fault_in, outcome_of}
 use Rattle.ak_turns.specs.WholeRuns.{event_after}
 use Rattle.ak_turns.specs.declared.notes.ProgramNote.{ProgramNote}
 use Rattle.ak_turns.specs.declared.notes.RuntimeNote.{RuntimeNote}
-use Rattle.ak_paged_machine.specs.Machines.{IsState, Parts}
-use Rattle.ak_paged_machine.specs.Moves.{Moves, MovesTo}
-use Rattle.ak_paged_machine.specs.declared.applied.Applied.{Applied}
+use Rattle.ak_machine.specs.Machines.{IsState, Parts}
+use Rattle.ak_machine.specs.Moves.{Moves, MovesTo}
+use Rattle.ak_machine.specs.declared.applied.Applied.{Applied}
 use Rattle.ak_run.specs.Blaming.{Marked, Marks}
 use Rattle.ak_run.specs.Events.{IsServable, queue_by_event}
 use Rattle.ak_run.specs.Runs.{Faithful, RunParts}

@@ -7,7 +7,7 @@ use Rattle.ak_core.specs.declared.event.Stop.{Stop}
 use Rattle.ak_core.specs.declared.moves.Answer.{Answer}
 use Rattle.ak_core.specs.declared.moves.Move.{Move}
 use Rattle.ak_relation.specs.State.MachineState.{State}
-use Rattle.ak_paged_machine.specs.Machines.{IsState, Parts, with_spare}
+use Rattle.ak_machine.specs.Machines.{IsState, Parts, with_spare}
 use Rattle.ak_run.specs.Blaming.{Marks}
 use Rattle.ak_run.specs.Runs.{Faithful, RunParts, SameRun}
 

@@ -7,7 +7,7 @@ use Rattle.ak_model.specs.Sound.Forced.{turns_of}
 use Rattle.ak_model.specs.Tapes.LastMoment.{runs_of}
 use Rattle.ak_relation.specs.Relation.Journals.{StopNamesBreak}
 use Rattle.ak_relation.proofs.Runs.KeptJournals.{built_journal}
-use Rattle.ak_paged_machine.specs.Machines.{IsJustBuilt, Parts}
+use Rattle.ak_machine.specs.Machines.{IsJustBuilt, Parts}
 use Rattle.ak_run.specs.Blaming.{AreLost, Marked, Marks, access_number}
 use Rattle.ak_run.specs.Runs.{Faithful, RunParts}
 

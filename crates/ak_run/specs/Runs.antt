@@ -8,7 +8,7 @@ use Rattle.ak_model.specs.Tapes.LastMoment.{runs_of}
 use Rattle.ak_relation.specs.Relation.Journals.{StopNamesBreak}
 use Rattle.ak_relation.specs.Relation.Keeping.{KeepsJournal}
 use Rattle.ak_relation.specs.State.MachineState.{State}
-use Rattle.ak_paged_machine.specs.Machines.{IsState, Parts, with_spare}
+use Rattle.ak_machine.specs.Machines.{IsState, Parts, with_spare}
 use Rattle.ak_run.specs.Blaming.{Marked, Marks}
 
 -- a run: the machine, what happened to it, how many instructions of the program were completed, the clusters that are in by the

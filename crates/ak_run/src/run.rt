@@ -1,7 +1,7 @@
 // A machine with its journal.
 ghost use Rattle.std.specs.Prelude.{◌≡◌, ◌+◌, ◌<◌, ◌≤◌, ◌^◌, ◌++◌, ◌∷◌, [], ℕ, List, None, IfOk, OnOk, OnErr, length};
-ghost use Rattle.ak_paged_machine.specs.Machines.{IsJustBuilt};
-ghost use Rattle.ak_paged_machine.specs.Moves.{turns_in};
+ghost use Rattle.ak_machine.specs.Machines.{IsJustBuilt};
+ghost use Rattle.ak_machine.specs.Moves.{turns_in};
 ghost use Rattle.ak_run.specs.Runs.{Faithful, SameRun};
 
 use crate::events::{event_of, output_of, serve};
@@ -9,7 +9,7 @@ use crate::marks::Marks;
 use crate::watch::Watch;
 use ak_cluster::Policy;
 use ak_core::{Answer, Journal, Move, OutOfMemory, PAGE_SIZE, all_pages};
-use ak_paged_machine::Machine;
+use ak_machine::Machine;
 use std::alloc::Global;
 use std::marker::Model;
 

@@ -7,11 +7,11 @@ ghost use Rattle.ak_model.specs.Paging.Walk.{walkable as is_walkable};
 ghost use Rattle.ak_core.specs.declared.page.Kind.{Kind as TheKind};
 ghost use Rattle.ak_relation.specs.State.MachineState.{State};
 ghost use Rattle.ak_relation.specs.State.Tables.{TablesStand};
-ghost use Rattle.ak_paged_machine.specs.Machines.{IsState};
+ghost use Rattle.ak_machine.specs.Machines.{IsState};
 ghost use Rattle.ak_run.specs.Watching.{AreLeft, IsWatched, finds, frame_by, framed_by, named_by, page_in, watches};
 
 use ak_core::{Entry, Frame, Kind, Move, Page, PageType, all_pages};
-use ak_paged_machine::Machine;
+use ak_machine::Machine;
 
 /// Of which kinds a walk finds a page.
 #[derive(Clone, Copy, Debug)]

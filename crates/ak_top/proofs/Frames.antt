@@ -6,7 +6,7 @@ use Rattle.std.specs.Prelude.{Bool, true, false, cond, Some, None, nat_lt, ◌==
 use Rattle.ak_core.specs.Layout.{number_on, numbers_from, size_of}
 use Rattle.ak_image.specs.Image.{Image, IsWhole, layout_of}
 use Rattle.ak_model.specs.Paging.Handles.{given}
-use Rattle.ak_paged_machine.specs.Machines.{IsJustBuilt, Parts}
+use Rattle.ak_machine.specs.Machines.{IsJustBuilt, Parts}
 use Rattle.ak_model.proofs.Clusters.ValidClusters.{clusters_fit}
 
 -- the numbering does not go down

@@ -1,7 +1,7 @@
 // A machine under a script: its moves, and those of the honest kernel.
 ghost use Rattle.std.specs.Prelude.{◌≡◌, ◌+◌, ◌<◌, ◌≤◌, ◌^◌, ◌++◌, ◌∷◌, [], ℕ, List, IfOk, OnOk, length};
 ghost use Rattle.ak_model.specs.Paging.Histories.{History};
-ghost use Rattle.ak_paged_machine.specs.Machines.{IsJustBuilt};
+ghost use Rattle.ak_machine.specs.Machines.{IsJustBuilt};
 ghost use Rattle.ak_run.specs.Runs.{Faithful};
 ghost use Rattle.ak_script.specs.Script.{moves_in};
 ghost use Rattle.ak_top.specs.Follows.{Drives, Follows, Makes, Moves, past_of};
@@ -9,7 +9,7 @@ ghost use Rattle.ak_top.specs.Sessions.{IsSession};
 
 use ak_core::{Move, OutOfMemory};
 use ak_driver::Driver;
-use ak_paged_machine::Machine;
+use ak_machine::Machine;
 use ak_run::Run;
 use ak_script::{Item, Script};
 use std::alloc::Global;

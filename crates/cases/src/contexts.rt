@@ -2,9 +2,9 @@
 use crate::files::{Documents, held, read_held};
 use ak_core::Page;
 use ak_image::Image;
+use ak_machine::Machine;
 use ak_measure::Signers;
 use ak_outside::MemFiles;
-use ak_paged_machine::Machine;
 use ak_run::Run;
 use ak_script::{Item, Script};
 use anyhow::{Result, bail};

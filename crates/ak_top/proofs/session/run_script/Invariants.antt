@@ -1,7 +1,7 @@
 use Rattle.std.proofs.Common.{◌≡◌, ◌+◌, ◌≤◌, ℕ, List, [], length, drop}
 use Rattle.std.specs.List.{sum_by}
 use Rattle.ak_model.specs.Paging.Histories.{History}
-use Rattle.ak_paged_machine.specs.Machines.{IsJustBuilt}
+use Rattle.ak_machine.specs.Machines.{IsJustBuilt}
 use Rattle.ak_script.specs.Script.{moves_in}
 use Rattle.ak_top.specs.Follows.{Leads, past_of}
 use Rattle.ak_top.specs.Sessions.{IsSession}

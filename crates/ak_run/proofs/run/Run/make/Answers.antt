@@ -3,8 +3,8 @@ use Rattle.ak_core.specs.Layout.{Layout}
 use Rattle.ak_core.specs.Journal.{with_more}
 use Rattle.ak_core.specs.declared.moves.Move.{Move}
 use Rattle.ak_turns.specs.WholeRuns.{event_after}
-use Rattle.ak_paged_machine.specs.Machines.{Parts}
-use Rattle.ak_paged_machine.specs.Moves.{turns_in}
+use Rattle.ak_machine.specs.Machines.{Parts}
+use Rattle.ak_machine.specs.Moves.{turns_in}
 use Rattle.ak_run.specs.Blaming.{Marks}
 use Rattle.ak_run.specs.Events.{queue_by_event}
 use Rattle.ak_run.specs.Runs.{Faithful, IsBounded, RunParts}

@@ -3,7 +3,7 @@ use Rattle.std.specs.Prelude.{reverse, zip}
 use Rattle.ak_core.specs.Layout.{Layout}
 use Rattle.ak_driver.specs.Notes.{Notes}
 use Rattle.ak_model.specs.Paging.Histories.{History}
-use Rattle.ak_paged_machine.specs.Machines.{Parts}
+use Rattle.ak_machine.specs.Machines.{Parts}
 use Rattle.ak_top.specs.Follows.{past_of}
 use Rattle.ak_top.proofs.session.Session.begin.Goals as goal
 

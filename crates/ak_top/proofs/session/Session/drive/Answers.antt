@@ -4,7 +4,7 @@ use Rattle.ak_core.specs.Layout.{Layout}
 use Rattle.ak_driver.specs.Notes.{Notes}
 use Rattle.ak_model.specs.Kernels.HonestKernel.{drive}
 use Rattle.ak_model.specs.Paging.Histories.{History}
-use Rattle.ak_paged_machine.specs.Machines.{Parts}
+use Rattle.ak_machine.specs.Machines.{Parts}
 use Rattle.ak_top.specs.Follows.{Drives, past_of}
 use Rattle.ak_top.proofs.Following.{drives_none, drives_some}
 use Rattle.ak_top.proofs.session.Session.drive.Goals as goal

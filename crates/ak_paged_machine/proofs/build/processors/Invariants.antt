@@ -1,5 +1,0 @@
-use Rattle.ak_paged_machine.specs.Machines.{AreNew}
-use Rattle.ak_paged_machine.proofs.build.processors.Given as goal
-
-abbrev pub invariant-loop-lp : goal.invariant-loop-lp
-invariant-loop-lp l = AreNew l.lp l.cpus.items
