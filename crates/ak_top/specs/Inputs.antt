@@ -8,7 +8,7 @@ use Rattle.ak_image.specs.Image.{Image}
 use Rattle.ak_image.specs.Reading.{image_of}
 use Rattle.ak_image.specs.Built.{digest_of}
 use Rattle.ak_script.specs.Script.{RefusedLine, Script, script_of}
-use Rattle.ak_words.specs.Asked.{AskedTexts, Run, Measure}
+use Rattle.ak_words.specs.Asked.{AskedTexts, Run, Measure, Demo}
 use Rattle.ak_top.specs.Layouts.{layout_for}
 use Rattle.ak_top.specs.Seen.{Contents}
 use Rattle.ak_top.specs.declared.inputs.Inputs.{Inputs}
@@ -69,10 +69,12 @@ signed inputs =
     else if not (allows inputs.signers inputs.image.signer (digest_of inputs.image)) then Err NotSigned
     else Ok inputs
 
--- what a command is to write: the report of a run of these inputs in this layout, or the measurement of an image
+-- what a command is to write: the report of a run of these inputs in this layout, the measurement of an image, or the summary of the
+-- run of a number's image
 pub data Task : Type 0 where
   Report : (layout : Layout) (inputs : Inputs) → Task
   Digest : (image : Image) → Task
+  Summary : (number : ℕ) → Task
 
 -- what a command is to write by what its files say, or the first trouble
 abbrev pub task_in : Option AskedTexts → Contents → Result Task Trouble
@@ -84,6 +86,7 @@ task_in (Some (Run asked)) files = do
 task_in (Some (Measure name)) files = do
   image ← image_in files.image
   Ok (Digest image)
+task_in (Some (Demo number)) files = Ok (Summary number)
 
 -- ---- The names that are asked for
 
@@ -99,3 +102,4 @@ asked_in (Some (Run names)) files =
     names.image ∷ where_well (image_in files.image)
     (names.signers ∷ where_well (signers_in files.signers) (names.script ∷ []))
 asked_in (Some (Measure image)) files = image ∷ []
+asked_in (Some (Demo number)) files = []

@@ -7,6 +7,7 @@ pub mod Layouts
 pub mod Reads
 pub mod Follows
 pub mod Served
+pub mod Demo
 pub mod Sessions
 pub mod Ends
 pub mod TopCall

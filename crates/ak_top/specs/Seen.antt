@@ -1,9 +1,9 @@
 -- Files and sinks at a moment, and what a command sees of its files.
-use Rattle.std.specs.Prelude.{◌≡◌, ℕ, ◌⊎◌, Bool, List, Option, Some, None}
+use Rattle.std.specs.Prelude.{◌≡◌, ℕ, ◌⊎◌, Bool, true, false, List, Option, Some, None}
 use Rattle.ak_outside.specs.Causes.{Rose}
 use Rattle.ak_outside.specs.declared.files.Files.{Ghosts as IsFiles}
 use Rattle.ak_outside.specs.declared.sink.Sink.{Ghosts as IsSink}
-use Rattle.ak_words.specs.Asked.{AskedTexts, Run, Measure}
+use Rattle.ak_words.specs.Asked.{AskedTexts, Run, Measure, Demo}
 
 -- files at a moment: what is said of content and names counts only where they tell
 pub record FilesState : Type 0 where
@@ -38,6 +38,14 @@ abbrev pub contents_of : (List ℕ → Option (List ℕ)) → Option AskedTexts 
 contents_of content None = record { image = None; signers = None; script = None }
 contents_of content (Some (Run names)) = record { image = content names.image; signers = content names.signers; script = content names.script }
 contents_of content (Some (Measure image)) = record { image = content image; signers = None; script = None }
+contents_of content (Some (Demo number)) = record { image = None; signers = None; script = None }
+
+-- it is a command that reads files
+abbrev pub reads_files : Option AskedTexts → Bool
+reads_files None = false
+reads_files (Some (Run names)) = true
+reads_files (Some (Measure image)) = true
+reads_files (Some (Demo number)) = false
 
 -- what was seen of a file, of what its name holds: all of it, or nothing where a fault rose
 abbrev pub IsSeen : ℕ → ℕ → Option (List ℕ) → Option (List ℕ) → Type 0

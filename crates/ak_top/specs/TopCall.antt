@@ -1,10 +1,10 @@
 -- The contract of the top call.
-use Rattle.std.specs.Prelude.{◌≡◌, ℕ, ◌<◌, ◌⊎◌, IsTrue, Option, Some, None, IsSome, Result, Ok, Err}
+use Rattle.std.specs.Prelude.{◌≡◌, ℕ, ◌<◌, ◌⊎◌, IsTrue, Option, true, false, Some, None, Result, Ok, Err}
 use Rattle.ak_core.specs.declared.event.Stop.{Stop}
 use Rattle.ak_outside.specs.Causes.{Rose}
 use Rattle.ak_words.specs.Asked.{AskedTexts}
-use Rattle.ak_top.specs.Seen.{FilesState, SinkState, Contents, contents_of, AreSeen}
-use Rattle.ak_top.specs.Inputs.{limit, Task, Report, Digest, task_in}
+use Rattle.ak_top.specs.Seen.{FilesState, SinkState, Contents, contents_of, reads_files, AreSeen}
+use Rattle.ak_top.specs.Inputs.{limit, Task, Report, Digest, Summary, task_in}
 use Rattle.ak_top.specs.Reads.{CountsBy, AsksBy}
 use Rattle.ak_top.specs.Ends.{Ends}
 use Rattle.ak_top.specs.Told.{Told}
@@ -42,6 +42,7 @@ Tells (Err trouble) command err err' = Told err err' (line_of trouble command)
 abbrev pub IsStatusOf : Result Task Trouble → ℕ → Type 0
 IsStatusOf (Ok (Report layout inputs)) status = (status ≡ 0) ⊎ (status ≡ 10)
 IsStatusOf (Ok (Digest image)) status = status ≡ 0
+IsStatusOf (Ok (Summary number)) status = status ≡ 0
 IsStatusOf (Err trouble) status = status ≡ status_of trouble
 
 -- what a call that gave this status did, with the command that its words give
@@ -58,17 +59,19 @@ pub record Serves (status : ℕ) (command : Option AskedTexts) (files files' : F
   pub tells : Tells ending command err err'
   -- the names that were asked are those that were due, in order
   pub asked : IsTrue files.tells → AsksBy ending command seen files.asked files'.asked
-  -- 2 comes exactly where the words give no command, or memory ran out at them; and nothing is read there
+  -- 2 comes exactly where the words give no command, or memory ran out at them
   pub usage : status ≡ 2 → command ≡ None
   pub unused : command ≡ None → (status ≡ 2) ⊎ (status ≡ 7)
-  pub unread : command ≡ None → files' ≡ files
+  -- nothing is read there, nor by a command that reads no files
+  pub unread : reads_files command ≡ false → files' ≡ files
   -- the count of the files' faults grew by one where a file could not be read, and else stayed; where memory ran out either
   pub counts : CountsBy ending files.faults files'.faults
   -- 5 comes only where it rose
   pub read : status ≡ 5 → Rose files.faults files'.faults
-  -- 8 comes exactly where the last file that was asked handed over more than a file may have, or memory ran out before any was asked
-  pub long : status ≡ 8 → IsSome command × (limit < files'.handed)
-  pub too_long : IsSome command → limit < files'.handed → (status ≡ 8) ⊎ ((status ≡ 7) × (files' ≡ files))
+  -- 8 comes exactly where a command reads files and the last that was asked handed over more than a file may have, or memory ran out
+  -- before any was asked
+  pub long : status ≡ 8 → (reads_files command ≡ true) × (limit < files'.handed)
+  pub too_long : reads_files command ≡ true → limit < files'.handed → (status ≡ 8) ⊎ ((status ≡ 7) × (files' ≡ files))
   -- where no fault rises, the status is one of what the files hold, or memory ran out
   pub complete : IsTrue files.tells → (Rose files.faults files'.faults → ⊥) → (Rose out.faults out'.faults → ⊥) →
       IsStatusOf (task_in command (contents_of files.content command)) status ⊎ (status ≡ 7)

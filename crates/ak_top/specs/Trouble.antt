@@ -12,7 +12,7 @@ use Rattle.ak_measure.specs.declared.fault.SignersFault.{SignersFault}
 use Rattle.ak_measure.specs.declared.fault.SignersFault.TheVariants.{OutOfMemory as OutOfMemorySigners}
 use Rattle.ak_script.specs.declared.fault.ScriptFault.{ScriptFault}
 use Rattle.ak_script.specs.declared.fault.ScriptFault.TheVariants.{Refused, OutOfMemory as OutOfMemoryScript}
-use Rattle.ak_words.specs.Asked.{RunTexts, AskedTexts, Run, Measure}
+use Rattle.ak_words.specs.Asked.{RunTexts, AskedTexts, Run, Measure, Demo}
 use Rattle.ak_top.specs.Refusals.{image_refusal, page_of, signers_refusal, script_refusal}
 use Rattle.ak_top.specs.declared.trouble.Place.{Place}
 use Rattle.ak_top.specs.declared.trouble.Place.TheVariants.{Image, Signers, Script}
@@ -67,11 +67,12 @@ name_in Image run = run.image
 name_in Signers run = run.signers
 name_in Script run = run.script
 
--- the name of a command's file; without a command there is none
+-- the name of a command's file; without a command there is none, and a demo has none
 abbrev pub name_at : Place → Option AskedTexts → List ℕ
 name_at place None = []
 name_at place (Some (Run run)) = name_in place run
 name_at place (Some (Measure image)) = image
+name_at place (Some (Demo number)) = []
 
 -- the line's words before the place
 abbrev pub head_of : Trouble → List ℕ

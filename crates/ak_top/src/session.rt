@@ -84,6 +84,21 @@ impl Session {
     }
 }
 
+/// Applies up to so many moves of the honest kernel to a machine from its build on, with no inputs for its program.
+pub fn run_honest(alloc: Global, machine: Machine, most: u32) -> Result<Run, OutOfMemory>
+    requires handles { length machine.encls.handles.sealed_pages < 2 ^ 31 }
+    requires cycles { machine.encls.track.cycles < 2 ^ 62 }
+    requires few { most < 2 ^ 31 }
+    ensures layout { IfOk result (λ run. run.machine.layout ≡ machine.layout) }
+    ensures drives { (image : List ℕ) → IsJustBuilt image machine → IfOk result (λ run. Drives machine.layout [] most [] (past_of run.journal)) }
+    ensures faithful { (image : List ℕ) → IsJustBuilt image machine → IfOk result (Faithful image) }
+{
+    let mut session = Session::begin(alloc, machine)?;
+    session.drive(most, &[])?;
+    let Session { run, driver: _ } = session;
+    Ok(run)
+}
+
 /// Applies a script's moves to a machine from its build on.
 pub fn run_script(alloc: Global, machine: Machine, script: &Script) -> Result<Run, OutOfMemory>
     requires handles { length machine.encls.handles.sealed_pages < 2 ^ 31 }

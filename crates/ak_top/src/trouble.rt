@@ -234,6 +234,7 @@ fn name_of<'a>(place: Place, command: Option<Asked<'a>>) -> &'a str
         None => "",
         Some(Asked::Run(run)) => name_of_run(place, run),
         Some(Asked::Measure(image)) => image,
+        Some(Asked::Demo(_)) => "",
     }
 }
 
