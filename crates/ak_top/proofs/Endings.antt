@@ -11,7 +11,7 @@ use Rattle.ak_top.specs.Ends.{digest_text, IsTextOf, Ends, Does, WritesText, Run
 use Rattle.ak_top.specs.Inputs.{Task, Report, Digest, image_in, inputs_in, signed, task_in, asked_in}
 use Rattle.ak_top.specs.Reads.{IsDue, CountsBy, is_foreign, is_too_long, AsksBy, ReadsFile, Reads}
 use Rattle.ak_top.specs.Layouts.{layout_for}
-use Rattle.ak_top.specs.Seen.{FilesState, SinkState, Contents}
+use Rattle.ak_top.specs.Seen.{FilesState, SinkState, Contents, reads_files}
 use Rattle.ak_image.specs.Built.{digest_of}
 use Rattle.ak_words.specs.Asked.{RunTexts, AskedTexts, Run, Measure}
 use Rattle.ak_top.specs.declared.inputs.Inputs.{Inputs}
@@ -47,7 +47,7 @@ no_usage : (trouble : Trouble) → is_foreign trouble ≡ false → ◌≡◌ {A
 no_usage trouble own e = let is : trouble ≡ Usage = cc in let wrong : true ≡ false = sym (ap is_foreign is) ∙ own in cc
 
 -- all names that are due were asked
-asks_all : (ending : Result Left Trouble) (command : AskedTexts) (seen : Contents) (asked asked' : List (List ℕ)) → asked' ≡ asked ++ asked_in (Some command) seen →
+pub asks_all : (ending : Result Left Trouble) (command : AskedTexts) (seen : Contents) (asked asked' : List (List ℕ)) → asked' ≡ asked ++ asked_in (Some command) seen →
     AsksBy ending (Some command) seen asked asked'
 asks_all (Ok u) command seen asked asked' e = e
 asks_all (Err OutOfMemory) command seen asked asked' e =
@@ -57,14 +57,14 @@ asks_all (Err _) command seen asked asked' e = e
 -- ---- A command, after its files
 
 -- where no file failed, the count stayed
-still_counts : (ending : Result Left Trouble) (before now : ℕ) → ((place : Place) → ending ≡ Err (ReadFailed place) → ⊥) → now ≡ before → CountsBy ending before now
+pub still_counts : (ending : Result Left Trouble) (before now : ℕ) → ((place : Place) → ending ≡ Err (ReadFailed place) → ⊥) → now ≡ before → CountsBy ending before now
 still_counts (Ok u) before now read e = e
 still_counts (Err (ReadFailed place)) before now read e = absurd (read place refl)
 still_counts (Err OutOfMemory) before now read e = inl e
 still_counts (Err _) before now read e = e
 
 module _ {A : Type 0} (command : AskedTexts) (said : Contents → Result A Trouble) (next : A → Result Task Trouble) (files files' : FilesState)
-    (is : (seen : Contents) → task_in (Some command) seen ≡ (said seen >>= next)) where
+    (is : (seen : Contents) → task_in (Some command) seen ≡ (said seen >>= next)) (reads : reads_files (Some command) ≡ true) where
   -- the files ended it
   pub files_end : (trouble : Trouble) (out : SinkState) → Reads said command files files' (Err trouble) → Does command files files' out out (Err trouble)
   files_end trouble out r =
@@ -75,7 +75,9 @@ module _ {A : Type 0} (command : AskedTexts) (said : Contents → Result A Troub
         ends = trouble_ends trouble (task_in (Some command) r.seen) out out r.own due refl;
         counts = r.counts;
         worded = no_usage trouble r.own;
-        long = r.long;
+        long = λ e. r.long;
+        short = λ e. absurd (cc);
+        unread = λ e. absurd (cc);
         asked = r.asked;
       }
 
@@ -90,36 +92,38 @@ module _ {A : Type 0} (command : AskedTexts) (said : Contents → Result A Troub
         ends = subst (λ wanted. Ends ending wanted out out') (sym due) ends;
         counts = still_counts ending _ _ read r.counts;
         worded = worded;
-        long = short ∙ r.long;
+        long = λ e. short ∙ r.long;
+        short = λ e. short;
+        unread = λ e. absurd (cc);
         asked = λ t. asks_all ending command r.seen files.asked files'.asked (r.asked t);
       }
 
 -- ---- What texts end in
 
 -- a trouble of the writing of a text: no trouble of files or words
-record IsOfText (trouble : Trouble) : Type 0 where
-  read : (place : Place) → trouble ≡ ReadFailed place → ⊥
-  worded : trouble ≡ Usage → ⊥
-  short : is_too_long {A = Left} (Err trouble) ≡ false
+pub record IsOfText (trouble : Trouble) : Type 0 where
+  pub read : (place : Place) → trouble ≡ ReadFailed place → ⊥
+  pub worded : trouble ≡ Usage → ⊥
+  pub short : is_too_long {A = Left} (Err trouble) ≡ false
 
-of_text : (trouble : Trouble) (text : List ℕ) (out out' : SinkState) → WritesText (Err trouble) text out out' → IsOfText trouble
+pub of_text : (trouble : Trouble) (text : List ℕ) (out out' : SinkState) → WritesText (Err trouble) text out out' → IsOfText trouble
 of_text WriteFailed text out out' w = record { read = λ p e. cc; worded = λ e. cc; short = refl }
 of_text OutOfMemory text out out' w = record { read = λ p e. cc; worded = λ e. cc; short = refl }
 of_text _ text out out' w = absurd w
 
 -- a command that wrote the text of its task, or failed to
 module _ {A : Type 0} (command : AskedTexts) (said : Contents → Result A Trouble) (next : A → Result Task Trouble) (files files' : FilesState)
-    (is : (seen : Contents) → task_in (Some command) seen ≡ (said seen >>= next)) (x : A) (r : Reads said command files files' (Ok x))
+    (is : (seen : Contents) → task_in (Some command) seen ≡ (said seen >>= next)) (reads : reads_files (Some command) ≡ true) (x : A) (r : Reads said command files files' (Ok x))
     (task : Task) (due : next x ≡ Ok task) (given : Left) (text : List ℕ) (is_text : IsTextOf task given text) (out out' : SinkState) where
   text_written : WritesText (Ok tt) text out out' → Does command files files' out out' (Ok given)
   text_written w =
-      ends_after command said next files files' is x (Ok given) out out' r (text_ends task given text (next x) out out' is_text due w)
+      ends_after command said next files files' is reads x (Ok given) out out' r (text_ends task given text (next x) out out' is_text due w)
       (λ p e. absurd (cc)) refl (λ e. absurd (cc))
 
   text_unwritten : (trouble : Trouble) → WritesText (Err trouble) text out out' → Does command files files' out out' (Err trouble)
   text_unwritten trouble w =
       let of = of_text trouble text out out' w in
-      ends_after command said next files files' is x (Err trouble) out out' r (text_fails task given text (next x) out out' trouble is_text due w)
+      ends_after command said next files files' is reads x (Err trouble) out out' r (text_fails task given text (next x) out out' trouble is_text due w)
       (λ p e. of.read p (cc)) of.short (λ e. of.worded (cc))
 
 -- ---- A measurement
@@ -134,19 +138,19 @@ digested image = Ok (Digest image)
 pub measured : (name : List ℕ) (files files' : FilesState) (out out' : SinkState) (image : Image) →
     ReadsFile image_in name files files' (Ok image) → WritesText (Ok tt) (digest_text (digest_of image)) out out' → Does (Measure name) files files' out out' (Ok left.Nothing)
 measured name files files' out out' image r w =
-    text_written (Measure name) measured_in digested files files' (λ seen. refl) image (image_read name files files' (Ok image) r)
+    text_written (Measure name) measured_in digested files files' (λ seen. refl) refl image (image_read name files files' (Ok image) r)
     (Digest image) refl left.Nothing (digest_text (digest_of image)) refl out out' w
 
 pub unwritten : (name : List ℕ) (files files' : FilesState) (out out' : SinkState) (image : Image) (trouble : Trouble) →
     ReadsFile image_in name files files' (Ok image) → WritesText (Err trouble) (digest_text (digest_of image)) out out' → Does (Measure name) files files' out out' (Err trouble)
 unwritten name files files' out out' image trouble r w =
-    text_unwritten (Measure name) measured_in digested files files' (λ seen. refl) image (image_read name files files' (Ok image) r)
+    text_unwritten (Measure name) measured_in digested files files' (λ seen. refl) refl image (image_read name files files' (Ok image) r)
     (Digest image) refl left.Nothing (digest_text (digest_of image)) refl out out' trouble w
 
 pub unmeasured : (name : List ℕ) (files files' : FilesState) (out : SinkState) (trouble : Trouble) → ReadsFile image_in name files files' (Err trouble) →
     Does (Measure name) files files' out out (Err trouble)
 unmeasured name files files' out trouble r =
-    files_end (Measure name) measured_in digested files files' (λ seen. refl) trouble out (image_read name files files' (Err trouble) r)
+    files_end (Measure name) measured_in digested files files' (λ seen. refl) refl trouble out (image_read name files files' (Err trouble) r)
 
 -- ---- A run
 
@@ -178,7 +182,7 @@ reported asked inputs = signed inputs >>= λ built. Ok (Report (layout_for built
 
 module _ (asked : RunTexts) (files files' : FilesState) where
   pub not_run : (out : SinkState) (trouble : Trouble) → Reads inputs_in (Run asked) files files' (Err trouble) → Does (Run asked) files files' out out (Err trouble)
-  not_run out trouble r = files_end (Run asked) inputs_in (reported asked) files files' (λ seen. refl) trouble out r
+  not_run out trouble r = files_end (Run asked) inputs_in (reported asked) files files' (λ seen. refl) refl trouble out r
 
   module _ (inputs : Inputs) (r : Reads inputs_in (Run asked) files files' (Ok inputs)) where
     of_run : (trouble : Trouble) → Runs (Err trouble) (layout_for inputs.image asked) inputs → IsOfRun trouble
@@ -194,7 +198,7 @@ module _ (asked : RunTexts) (files files' : FilesState) where
     pub unsigned : (out : SinkState) (trouble : Trouble) → Runs (Err trouble) (layout_for inputs.image asked) inputs → Does (Run asked) files files' out out (Err trouble)
     unsigned out trouble h =
         let own = of_run trouble h in
-        ends_after (Run asked) inputs_in (reported asked) files files' (λ seen. refl) inputs (Err trouble) out out r
+        ends_after (Run asked) inputs_in (reported asked) files files' (λ seen. refl) refl inputs (Err trouble) out out r
         (trouble_ends trouble (reported asked inputs) out out own.own (run_due trouble h) refl) (λ p e. own.read p (cc)) own.short (no_usage trouble own.own)
 
     module _ (run : RunParts) (h : Runs (Ok run) (layout_for inputs.image asked) inputs) (out out' : SinkState) where
@@ -203,10 +207,10 @@ module _ (asked : RunTexts) (files files' : FilesState) where
 
       pub ran : WritesText (Ok tt) (report run.journal) out out' → Does (Run asked) files files' out out' (Ok (left.Run run))
       ran w =
-          text_written (Run asked) inputs_in (reported asked) files files' (λ seen. refl) inputs r (Report (layout_for inputs.image asked) inputs) due
+          text_written (Run asked) inputs_in (reported asked) files files' (λ seen. refl) refl inputs r (Report (layout_for inputs.image asked) inputs) due
           (left.Run run) (report run.journal) (h.1, refl) out out' w
 
       pub unreported : (trouble : Trouble) → WritesText (Err trouble) (report run.journal) out out' → Does (Run asked) files files' out out' (Err trouble)
       unreported trouble w =
-          text_unwritten (Run asked) inputs_in (reported asked) files files' (λ seen. refl) inputs r (Report (layout_for inputs.image asked) inputs) due
+          text_unwritten (Run asked) inputs_in (reported asked) files files' (λ seen. refl) refl inputs r (Report (layout_for inputs.image asked) inputs) due
           (left.Run run) (report run.journal) (h.1, refl) out out' trouble w

@@ -5,4 +5,6 @@ pub mod Pasts
 pub mod Following
 pub mod Signing
 pub mod Endings
+pub mod Driven
+pub mod Demos
 pub mod Statuses

@@ -3,9 +3,12 @@ use Rattle.std.proofs.Common.{◌≡◌, refl, Bool, true, false}
 use Rattle.std.specs.Prelude.{Ok, Err, not, if◌then◌else◌}
 use Rattle.ak_image.specs.Built.{digest_of}
 use Rattle.ak_measure.specs.Signers.{knows, allows}
+use Rattle.ak_core.specs.declared.failure.BuildFault.{BuildFault}
+use Rattle.ak_core.specs.declared.failure.BuildFault.TheVariants.{UnknownSigner as NoSuchSigner, MeasurementNotSigned, OutOfMemory as OutOfMemoryBuild}
 use Rattle.ak_top.specs.Inputs.{signed}
+use Rattle.ak_top.specs.Trouble.{trouble_of_build}
 use Rattle.ak_top.specs.declared.inputs.Inputs.{Inputs}
-use Rattle.ak_top.specs.declared.trouble.Trouble.TheVariants.{UnknownSigner, NotSigned}
+use Rattle.ak_top.specs.declared.trouble.Trouble.TheVariants.{UnknownSigner, NotSigned, OutOfMemory}
 
 is_true : (b : Bool) → (b ≡ false → ⊥) → b ≡ true
 is_true true h = refl
@@ -23,3 +26,9 @@ signed_is inputs known allowed =
     by_tests true true e f = refl
     by_tests true false e f = absurd (cc)
     by_tests false b e f = absurd (cc)
+
+-- where its own signer signed it, its build fails only where memory ran out
+pub only_memory : (fault : BuildFault) → (fault ≡ NoSuchSigner → ⊥) → (fault ≡ MeasurementNotSigned → ⊥) → trouble_of_build fault ≡ OutOfMemory
+only_memory OutOfMemoryBuild known allowed = refl
+only_memory NoSuchSigner known allowed = absurd (known refl)
+only_memory MeasurementNotSigned known allowed = absurd (allowed refl)

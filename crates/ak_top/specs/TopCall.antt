@@ -2,7 +2,7 @@
 use Rattle.std.specs.Prelude.{◌≡◌, ℕ, ◌<◌, ◌⊎◌, IsTrue, Option, true, false, Some, None, Result, Ok, Err}
 use Rattle.ak_core.specs.declared.event.Stop.{Stop}
 use Rattle.ak_outside.specs.Causes.{Rose}
-use Rattle.ak_words.specs.Asked.{AskedTexts}
+use Rattle.ak_words.specs.Asked.{AskedTexts, Demo}
 use Rattle.ak_top.specs.Seen.{FilesState, SinkState, Contents, contents_of, reads_files, AreSeen}
 use Rattle.ak_top.specs.Inputs.{limit, Task, Report, Digest, Summary, task_in}
 use Rattle.ak_top.specs.Reads.{CountsBy, AsksBy}
@@ -72,6 +72,8 @@ pub record Serves (status : ℕ) (command : Option AskedTexts) (files files' : F
   -- before any was asked
   pub long : status ≡ 8 → (reads_files command ≡ true) × (limit < files'.handed)
   pub too_long : reads_files command ≡ true → limit < files'.handed → (status ≡ 8) ⊎ ((status ≡ 7) × (files' ≡ files))
+  -- a demo ends with its summary, or where the sink fails or memory runs out: its enclave never stops
+  pub demo : (number : ℕ) → command ≡ Some (Demo number) → ((status ≡ 0) ⊎ (status ≡ 6)) ⊎ (status ≡ 7)
   -- where no fault rises, the status is one of what the files hold, or memory ran out
   pub complete : IsTrue files.tells → (Rose files.faults files'.faults → ⊥) → (Rose out.faults out'.faults → ⊥) →
       IsStatusOf (task_in command (contents_of files.content command)) status ⊎ (status ≡ 7)

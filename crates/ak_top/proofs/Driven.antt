@@ -1,0 +1,41 @@
+-- The moves of a sound journal that the honest kernel drove are the honest kernel's over the tape of the journal's events.
+use Rattle.std.proofs.Common.{◌≡◌, ℕ, zero, suc, List, [], ◌∷◌, refl, sym, subst}
+use Rattle.std.specs.Prelude.{Option, Some, None, reverse}
+use Rattle.ak_core.specs.Journal.{Journal}
+use Rattle.ak_core.specs.Layout.{Layout}
+use Rattle.ak_core.specs.declared.event.Event.{Event}
+use Rattle.ak_core.specs.declared.moves.Move.{Move}
+use Rattle.ak_model.specs.Control.Trace.{trace}
+use Rattle.ak_model.specs.Kernels.HonestKernel.{drive, IsDriven}
+use Rattle.ak_model.specs.Paging.Histories.{History}
+use Rattle.ak_model.specs.Sound.SoundJournal.{Sound}
+use Rattle.ak_top.specs.Follows.{GoesOn, Drives, past_of}
+use Rattle.ak_top.proofs.Pasts.{tells_trace}
+
+module _ (layout : Layout) (inputs : List ℕ) where
+  -- each move of a history is the honest kernel's then
+  abbrev EachDriven : History → Type 0
+  EachDriven [] = Unit {0}
+  EachDriven (pair ∷ past) = (drive layout past inputs ≡ Some pair.0) × EachDriven past
+
+  -- so it is in a history to which the kernel leads
+  each_driven : (n : ℕ) (past last : History) → EachDriven past → Drives layout inputs n past last → EachDriven last
+  each_driven zero past last before h = subst EachDriven (sym h) before
+  each_driven (suc n) past last before h = by_move (drive layout past inputs) refl h
+    where
+      by_move : (next : Option Move) → drive layout past inputs ≡ next →
+          GoesOn next (λ next. Drives layout inputs n next last) (last ≡ past) past → EachDriven last
+      by_move None e h = subst EachDriven (sym h) before
+      by_move (Some m) e h = each_driven n ((m, h.0) ∷ past) last (e, before) h.1
+
+  -- and then the moves of a trace are the kernel's
+  trace_driven : (tape : List Event) (moves : List Move) → EachDriven (trace layout tape moves).past → IsDriven layout tape inputs moves
+  trace_driven tape [] h = tt
+  trace_driven tape (m ∷ moves) h = (h.0, trace_driven tape moves h.1)
+
+-- from the build on
+pub is_driven : (image : List ℕ) (layout : Layout) (journal : Journal) (inputs : List ℕ) (n : ℕ) → Sound image layout journal →
+    Drives layout inputs n [] (past_of journal) → IsDriven layout journal.events inputs (reverse journal.moves)
+is_driven image layout journal inputs n sound h =
+    trace_driven layout inputs journal.events (reverse journal.moves)
+    (subst (EachDriven layout inputs) (tells_trace image layout journal sound) (each_driven layout inputs n [] (past_of journal) tt h))
