@@ -18,15 +18,18 @@ module _ (layout : Layout) (inputs : List ℕ) where
   EachDriven [] = Unit {0}
   EachDriven (pair ∷ past) = (drive layout past inputs ≡ Some pair.0) × EachDriven past
 
+  -- so it is by its next move, where it is so from there on
+  by_move : (n : ℕ) (next : Option Move) (past last : History) → EachDriven past →
+      ((past : History) → EachDriven past → Drives layout inputs n past last → EachDriven last) → drive layout past inputs ≡ next →
+      GoesOn next (λ next. Drives layout inputs n next last) (last ≡ past) past → EachDriven last
+  by_move n None past last before then is h = subst EachDriven (sym h) before
+  by_move n (Some m) past last before then is h = then ((m, h.0) ∷ past) (is, before) h.1
+
   -- so it is in a history to which the kernel leads
   each_driven : (n : ℕ) (past last : History) → EachDriven past → Drives layout inputs n past last → EachDriven last
   each_driven zero past last before h = subst EachDriven (sym h) before
-  each_driven (suc n) past last before h = by_move (drive layout past inputs) refl h
-    where
-      by_move : (next : Option Move) → drive layout past inputs ≡ next →
-          GoesOn next (λ next. Drives layout inputs n next last) (last ≡ past) past → EachDriven last
-      by_move None e h = subst EachDriven (sym h) before
-      by_move (Some m) e h = each_driven n ((m, h.0) ∷ past) last (e, before) h.1
+  each_driven (suc n) past last before h =
+      by_move n (drive layout past inputs) past last before (λ past before h. each_driven n past last before h) refl h
 
   -- and then the moves of a trace are the kernel's
   trace_driven : (tape : List Event) (moves : List Move) → EachDriven (trace layout tape moves).past → IsDriven layout tape inputs moves
