@@ -171,7 +171,7 @@ module _ (parts : Parts) (s : IsSound parts) where
         sized = refl;
         moved = moved;
         refused = λ undone. absurd (cc);
-        counts = counts_none parts.encls encls Ok refl (ap (λ (e : Enclave). e.handles) to.leaves) cycles;
+        counts = counts_none parts.encls encls Ok refl (ap (λ (e : Enclave). e.handles) to.leaves) cycles (ap (λ (e : Enclave). e.measure) to.leaves);
         few = omega arith;
       }
 

@@ -75,6 +75,6 @@ module _ (parts : Parts) (s : IsSound parts) (p : Page) where
       moved = λ state machine. plain_moves parts.layout state (with_mapping state p.0 (mapping_of e)) (SetPte p e.frame e.flags) Ok (record parts { table = table })
           (entry_set state machine) refl refl (set_pte_moves parts.layout state p e.frame e.flags has);
       refused = λ undone. absurd (cc);
-      counts = counts_none parts.encls parts.encls Ok refl refl refl;
+      counts = counts_none parts.encls parts.encls Ok refl refl refl refl;
       few = omega arith;
     }

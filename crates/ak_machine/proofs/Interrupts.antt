@@ -93,7 +93,7 @@ module _ (parts : Parts) (s : IsSound parts) (lp : Lp) (cpu : Cpu) (at : slice_g
         sized = refl;
         moved = interrupted_to;
         refused = λ undone. absurd (cc);
-        counts = counts_none parts.encls encls Ok refl (ap (λ (e : Enclave). e.handles) to.rest) cycles;
+        counts = counts_none parts.encls encls Ok refl (ap (λ (e : Enclave). e.handles) to.rest) cycles (ap (λ (e : Enclave). e.measure) to.rest);
         few = omega arith;
       }
 

@@ -80,6 +80,6 @@ module _ (parts : Parts) (m : Move) (a : Answer) (encls : Enclave) (leaf : is_le
     sized = refl;
     moved = λ state machine. moved state machine (is_done a) refl;
     refused = λ undone. ap (λ (e : Enclave). record parts { encls = e }) (refused undone);
-    counts = record { spare = rest.spare; given = rest.given; cycles = rest.cycles };
+    counts = record { spare = rest.spare; given = rest.given; cycles = rest.cycles; measure = rest.measure };
     few = omega arith;
   }

@@ -38,11 +38,13 @@ plain_moves layout old new m a parts machine same none move = record {
 }
 
 -- nothing is counted
-pub counts_none : (old new : Enclave) (a : Answer) → given_by a ≡ 0 → new.handles ≡ old.handles → new.track.cycles ≡ old.track.cycles → Counts old new a
-counts_none old new a none handles cycles = record {
+pub counts_none : (old new : Enclave) (a : Answer) → given_by a ≡ 0 → new.handles ≡ old.handles → new.track.cycles ≡ old.track.cycles →
+    new.measure ≡ old.measure → Counts old new a
+counts_none old new a none handles cycles measure = record {
   spare = ap (λ n. new.handles.spare + n) none ∙ (let same : new.handles.spare ≡ old.handles.spare = ap (λ h. h.spare) handles in omega arith);
   given = (let same : length new.handles.sealed_pages ≡ length old.handles.sealed_pages = ap (λ h. length h.sealed_pages) handles in omega (arith, none));
   cycles = omega (arith, cycles);
+  measure = measure;
 }
 
 -- a refusal, after which the machine is as it was
@@ -54,6 +56,6 @@ stays parts m a undone move = record {
   sized = refl;
   moved = λ state machine. plain_moves parts.layout state state m a parts machine refl (no_run m a undone) (move state machine);
   refused = λ _. refl;
-  counts = counts_none parts.encls parts.encls a (given_none a undone) refl refl;
+  counts = counts_none parts.encls parts.encls a (given_none a undone) refl refl refl;
   few = omega arith;
 }

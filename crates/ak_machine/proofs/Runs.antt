@@ -130,6 +130,6 @@ module _ (parts : Parts) (s : IsSound parts) (lp : Lp) (cpu : Cpu) (at : slice_g
           sized = refl;
           moved = run_to;
           refused = λ undone. absurd (cc);
-          counts = record { spare = omega (arith, spare); given = omega (arith, given); cycles = omega (arith, cycles) };
+          counts = record { spare = omega (arith, spare); given = omega (arith, given); cycles = omega (arith, cycles); measure = ap (λ (e : Enclave). e.measure) rest };
           few = few;
         }

@@ -38,11 +38,13 @@ pub record MovesTo (layout : Layout) (old : State) (m : Move) (applied : Applied
   pub cause : NamesMoveCause layout old new m applied.answer (event_after layout old.queue new.count applied.program) (outcome_of applied.runtime)
   pub notes : TellsMove layout old new m applied.answer (event_after layout old.queue new.count applied.program) (fault_in applied.program) (outcome_of applied.runtime)
 
--- a write-out that is done gives a handle and takes one of the spare; and a move makes one cycle of tracking at most
+-- a write-out that is done gives a handle and takes one of the spare; a move makes one cycle of tracking at most; and the measurement
+-- stays as the build left it
 pub record Counts (old new : Enclave) (a : Answer) : Type 0 where
   pub spare : new.handles.spare + given_by a ≡ old.handles.spare
   pub given : length new.handles.sealed_pages ≡ length old.handles.sealed_pages + given_by a
   pub cycles : new.track.cycles ≤ old.track.cycles + 1
+  pub measure : new.measure ≡ old.measure
 
 -- the move is made from each state of the machine, and keeps the layout, and how many processors and entries of the page table there
 -- are; one that is refused changes nothing

@@ -7,4 +7,4 @@ mod marks;
 mod run;
 mod watch;
 
-pub use run::{Run, run_moves};
+pub use run::Run;

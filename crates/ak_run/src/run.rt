@@ -147,18 +147,3 @@ fn no_clusters() -> Policy
 {
     Policy::load(&[0; PAGE_SIZE])
 }
-
-/// Applies these moves, one after the other. Where memory runs out, those before are applied.
-pub fn run_moves(run: &mut Run, moves: &[Move]) -> Result<(), OutOfMemory>
-    requires { length run.old.journal.moves + length moves.now ≤ 2 ^ 31 }
-    ensures faithful { (image : List ℕ) → Faithful image run.old → Faithful image run.new }
-    ensures layout { run.new.machine.layout ≡ run.old.machine.layout }
-    ensures moves { OnOk result (run.new.journal.moves ≡ run.old.journal.moves ++ moves.now) }
-{
-    for m in moves {
-        if let Err(fault) = run.apply(m) {
-            return Err(fault);
-        }
-    }
-    Ok(())
-}
