@@ -45,7 +45,6 @@ const TABLES: [&str; 15] = [
     "blame.txt",
     "honest.txt",
     "demo.txt",
-    "demo.txt",
     CONTEXTS,
 ];
 
