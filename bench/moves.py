@@ -10,13 +10,12 @@ It writes into a folder
                  with room for 128
   walk.script    up to 20,000 moves of the honest kernel for it
   signers.toml   that signs walk.toml
-With a program it runs each, and prints the least seconds of the processor of five calls, and the most memory of one.
+`bench/measure.py` times the program over them.
 """
 import argparse
 import os
-import subprocess
 import sys
-from typing import List
+from typing import Dict, List
 
 sys.dont_write_bytecode = True
 sys.path.insert(0, os.path.join(os.path.dirname(os.path.dirname(os.path.abspath(__file__))), "tools"))
@@ -27,7 +26,6 @@ BASE = 0x40000000
 LOADS = 2_000
 MOST_MOVES = 20_000
 SERVED = 17
-CALLS = 5
 CODE = (
     "48bb0010004000000000"  # RBX: page 1
     "48b90000000000000000"  # RCX: 0
@@ -71,16 +69,21 @@ def ending(around: List[str], flags: str) -> str:
     return "\n".join([f"auto {SERVED}", *["run 0 1"] * rest, *around * rounds, *last]) + "\n"
 
 
-def timed(program: str, files: List[str]) -> str:
-    """The least time and the most memory of some calls, with the last line of the report."""
-    seconds, most, last = [], 0, ""
-    for _ in range(CALLS):
-        called = subprocess.Popen([program, "run", *files], stdout=subprocess.PIPE)
-        last = called.stdout.read().decode().splitlines()[-1]
-        _, _, used = os.wait4(called.pid, 0)
-        seconds.append(used.ru_utime + used.ru_stime)
-        most = max(most, used.ru_maxrss)
-    return f"{min(seconds):.3f} s {most / 1024:.0f} MiB {last}"
+def walk_texts(pages: int, in_cluster: int, budget: int) -> Dict[str, str]:
+    """The image, the script and the signers of a random walk."""
+    image = walk(pages, in_cluster, budget)
+    return {"walk.toml": image_text(image), "walk.script": f"auto {MOST_MOVES}\n", "signers.toml": f'bench = ["{measurement(image)}"]\n'}
+
+
+def loop_texts() -> Dict[str, str]:
+    """The scripts over loop.toml."""
+    return {"steps.script": steps(), "go.script": ending(AROUND, "pxad"), "stop.script": ending(AROUND, "-"), "losses.script": ending(LOSSES, "-")}
+
+
+def write_all(folder: str, texts: Dict[str, str]) -> None:
+    for name, text in texts.items():
+        with open(os.path.join(folder, name), "w", encoding="ascii") as file:
+            file.write(text)
 
 
 def main() -> int:
@@ -89,28 +92,8 @@ def main() -> int:
     words.add_argument("--pages", type=int, default=512, help="the program's pages (default: 512)")
     words.add_argument("--in-cluster", type=int, default=8, help="the pages of a cluster (default: 8)")
     words.add_argument("--budget", type=int, default=128, help="the pages that may be in (default: 128)")
-    words.add_argument("--program", metavar="PROGRAM", help="time this program")
     given = words.parse_args()
-    image = walk(given.pages, given.in_cluster, given.budget)
-    texts = {
-        "steps.script": steps(),
-        "go.script": ending(AROUND, "pxad"),
-        "stop.script": ending(AROUND, "-"),
-        "losses.script": ending(LOSSES, "-"),
-        "walk.toml": image_text(image),
-        "walk.script": f"auto {MOST_MOVES}\n",
-        "signers.toml": f'bench = ["{measurement(image)}"]\n',
-    }
-    for name, text in texts.items():
-        with open(os.path.join(given.folder, name), "w", encoding="ascii") as file:
-            file.write(text)
-    if given.program is not None:
-        here = os.path.dirname(os.path.abspath(__file__))
-        made = {name: os.path.join(given.folder, name) for name in texts}
-        loop = [os.path.join(here, name) for name in ("loop.toml", "signers.toml")]
-        for name in ("steps", "go", "stop", "losses"):
-            print(name, timed(given.program, [*loop, made[f"{name}.script"]]))
-        print("walk", timed(given.program, [made["walk.toml"], made["signers.toml"], made["walk.script"]]))
+    write_all(given.folder, {**loop_texts(), **walk_texts(given.pages, given.in_cluster, given.budget)})
     return 0
 
 
