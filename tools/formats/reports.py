@@ -1,5 +1,5 @@
 """Reports: the moves of the kernel with their answers, the outputs, the events and the stop. Forms are those of the report's
-definition, `report_of` in crates/ak_top/specs/Report.antt."""
+definition, `report` in crates/ak_report/specs/Report.antt."""
 import re
 from dataclasses import dataclass
 from typing import List, NamedTuple, NoReturn, Optional, Tuple
