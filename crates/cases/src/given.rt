@@ -110,7 +110,7 @@ impl Given {
         held(self.files.put(name, &bytes))
     }
 
-    /// Makes the call, and tells what came of it. A run is left exactly where a report was written.
+    /// Makes the call, and tells what came of it. A run is left exactly where a report or a summary was written.
     pub fn play(&mut self, alloc: Global) -> Result<String> {
         let mut left = Left::Nothing;
         let status = autarky(
@@ -123,11 +123,12 @@ impl Given {
         );
         let report = str::from_utf8(self.out.taken())?;
         let told = str::from_utf8(self.err.taken())?;
+        let is_whole = report.starts_with("autarky 1\n") || report.starts_with("demo ");
         let is_left = match left {
             Left::Nothing => false,
             Left::Run(_) => true,
         };
-        if is_left != (report.starts_with("autarky 1\n") && told.is_empty()) {
+        if is_left != (is_whole && told.is_empty()) {
             bail!("what is left");
         }
         let text = format!(in alloc; "{report}! {told}= {status}")?;

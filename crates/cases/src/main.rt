@@ -30,7 +30,7 @@ use anyhow::{Result, bail};
 use std::alloc::Global;
 
 /// The tables.
-const TABLES: [&str; 14] = [
+const TABLES: [&str; 15] = [
     "words.txt",
     "script_lines.txt",
     "writes.txt",
@@ -44,6 +44,7 @@ const TABLES: [&str; 14] = [
     "stops.txt",
     "blame.txt",
     "honest.txt",
+    "demo.txt",
     CONTEXTS,
 ];
 
