@@ -12,7 +12,7 @@ from yardstick.machine import Run
 
 TABLES = os.path.join(TOP, "crates", "cases", "data")
 CONTEXTS = "contexts.txt"
-OTHERS = ("files.txt", "images.txt", "demo.txt", CONTEXTS)
+OTHERS = ("files.txt", "images.txt", "demo.txt", "left.txt", CONTEXTS)
 BASE = 0x10000000
 FEWEST_CASES = 150
 

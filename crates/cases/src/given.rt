@@ -110,17 +110,27 @@ impl Given {
         held(self.files.put(name, &bytes))
     }
 
-    /// Makes the call, and tells what came of it. A run is left exactly where a report or a summary was written.
-    pub fn play(&mut self, alloc: Global) -> Result<String> {
-        let mut left = Left::Nothing;
-        let status = autarky(
+    /// Makes the call, and gives the status.
+    pub fn call(&mut self, alloc: Global, left: &mut Left) -> u8 {
+        autarky(
             alloc,
             &self.words,
             &mut self.files,
             &mut self.out,
             &mut self.err,
-            &mut left,
-        );
+            left,
+        )
+    }
+
+    /// What `out` took.
+    pub fn taken(&self) -> &[u8] {
+        self.out.taken()
+    }
+
+    /// Makes the call, and tells what came of it. A run is left exactly where a report or a summary was written.
+    pub fn play(&mut self, alloc: Global) -> Result<String> {
+        let mut left = Left::Nothing;
+        let status = self.call(alloc, &mut left);
         let report = str::from_utf8(self.out.taken())?;
         let told = str::from_utf8(self.err.taken())?;
         let is_whole = report.starts_with("autarky 1\n") || report.starts_with("demo ");

@@ -1,6 +1,7 @@
 //! Plays each case of the tables in `data/` through the top call, over files and sinks in memory, and prints how many of each table
 //! come out as they must; of any other it prints what came of it. The cases of `contexts.txt` are an image and moves, and then what
-//! each move changes in the TCS, the saved-state areas and STATE.
+//! each move changes in the TCS, the saved-state areas and STATE. Those of `left.txt` are calls, each after an earlier one that left a run,
+//! and what they leave: nothing, or the run that was reported, with the bytes of the pages that are asked for.
 //!
 //! A table begins with a remark and an empty line. An empty line stands between its cases. A case is what is given, and then what comes
 //! of it:
@@ -21,16 +22,18 @@
 mod contexts;
 mod files;
 mod given;
+mod left;
 
 use crate::contexts::changes;
 use crate::files::{Documents, read_text};
 use crate::given::Given;
+use crate::left::leavings;
 use ak_outside::RealFiles;
 use anyhow::{Result, bail};
 use std::alloc::Global;
 
 /// The tables.
-const TABLES: [&str; 15] = [
+const TABLES: [&str; 16] = [
     "words.txt",
     "script_lines.txt",
     "writes.txt",
@@ -46,10 +49,14 @@ const TABLES: [&str; 15] = [
     "honest.txt",
     "demo.txt",
     CONTEXTS,
+    LEFT,
 ];
 
 /// The table of what moves change.
 const CONTEXTS: &str = "contexts.txt";
+
+/// The table of what calls leave.
+const LEFT: &str = "left.txt";
 
 /// What comes of a case of this table.
 fn outcome(
@@ -59,10 +66,10 @@ fn outcome(
     lines: &str,
     wanted: &str,
 ) -> Result<String> {
-    if table == CONTEXTS {
-        changes(alloc, documents, lines)
-    } else {
-        Given::new(alloc, documents, lines, wanted)?.play(alloc)
+    match table {
+        CONTEXTS => changes(alloc, documents, lines),
+        LEFT => leavings(alloc, documents, lines),
+        _ => Given::new(alloc, documents, lines, wanted)?.play(alloc),
     }
 }
 
