@@ -3,7 +3,7 @@ import os
 import re
 from typing import Dict, Iterator, List, NamedTuple, Optional
 
-from formats.images import Image, Page, measurement
+from formats.images import PAGE_SIZE, Image, Page, measurement
 from formats.refusals import Refusal
 from formats.scripts import read_script
 from tests.harness import TOP, Tally, call, examples
@@ -11,8 +11,8 @@ from yardstick.areas import Watch
 from yardstick.machine import Run
 
 TABLES = os.path.join(TOP, "crates", "cases", "data")
-CONTEXTS = "contexts.txt"
-OTHERS = ("files.txt", "images.txt", "demo.txt", "left.txt", CONTEXTS)
+CONTEXTS, LEFT = "contexts.txt", "left.txt"
+OTHERS = ("files.txt", "images.txt", "demo.txt", LEFT, CONTEXTS)
 BASE = 0x10000000
 FEWEST_CASES = 150
 
@@ -110,6 +110,41 @@ def test_contexts(tally: Tally) -> None:
         tally.equal(f"contexts: {lines[1][2:]}", changed(found[lines[0][2:]], moves), outcome)
 
 
+def page_lines(run: Run, page: int) -> List[str]:
+    """A page that is left, as the table tells it: its frame, and each word of eight bytes that is not zero."""
+    frame = run.enclave.frame_of(page)
+    if frame is None:
+        return [f"page {page} in no frame"]
+    data = run.memory[PAGE_SIZE * page : PAGE_SIZE * (page + 1)]
+    words = [(place, data[place : place + 8]) for place in range(0, PAGE_SIZE, 8)]
+    return [f"page {page} in frame {frame}"] + [f"{place} {word.hex()}" for place, word in words if any(word)]
+
+
+def leavings(image: Image, script: List[str], pages: List[int]) -> str:
+    """What a run leaves, as the table tells it."""
+    run = Run(image)
+    run.play(read_script("".join(f"{line}\n" for line in script).encode()))
+    lines = [f"the run, {len(run.runtime.stack)} saved", *(line for page in pages for line in page_lines(run, page))]
+    return "\n".join([*lines, f"= {0 if run.stop is None else 10}"])
+
+
+def test_left(tally: Tally) -> None:
+    """A call leaves its run at 0 and 10, and nothing after a measurement and at another status."""
+    found, runs = images(), 0
+    for text in table(LEFT).rstrip("\n").split("\n\n")[1:]:
+        given, _, outcome = text.partition("\n> ")
+        lines = given.split("\n")
+        name, status = lines[0].split(" ")[2], int(outcome.rpartition("= ")[2])
+        if lines[0].startswith("$ run ") and status in (0, 10):
+            script = [line[2:] for line in lines if line.startswith("| ")]
+            pages = [int(line[5:]) for line in lines if line.startswith("page ")]
+            tally.equal(f"left: {name} {len(script)} {status}", leavings(found[name], script, pages), outcome)
+            runs += 1
+        else:
+            tally.equal(f"left: {name} {status}", outcome, f"nothing\n= {status}")
+    tally.holds("left: runs are left", runs >= 4)
+
+
 def test_lines(tally: Tally) -> None:
     """The lines of the table that are refused, and those that are taken."""
     for text in table("script_lines.txt").rstrip("\n").split("\n\n")[1:]:
@@ -134,5 +169,6 @@ def test_examples(tally: Tally) -> None:
 def test(tally: Tally) -> None:
     test_tables(tally)
     test_contexts(tally)
+    test_left(tally)
     test_lines(tally)
     test_examples(tally)

@@ -12,6 +12,7 @@ TOOLS = os.path.dirname(os.path.dirname(os.path.abspath(__file__)))
 sys.path.insert(0, TOOLS)
 from formats.images import measurement, read_image
 from formats.refusals import read_file
+from yardstick.generated import summary
 
 
 class Kept(NamedTuple):
@@ -25,6 +26,8 @@ class Kept(NamedTuple):
 def answered(words: List[str]) -> str:
     if words[0] == "measure":
         return measurement(read_image(read_file(words[1]))) + "\n"
+    if words[0] == "demo":
+        return summary(int(words[1]))
     predict = [sys.executable, os.path.join(TOOLS, "predict"), *words[1:]]
     return subprocess.run(predict, stdout=subprocess.PIPE, stderr=subprocess.STDOUT, text=True, check=False).stdout
 
