@@ -1,6 +1,6 @@
 // What moves change in the pages where the processor and the runtime keep contexts: the TCS, the saved-state areas and STATE.
 use crate::files::{Documents, held, read_held};
-use ak_core::Page;
+use ak_core::{OutOfMemory, Page};
 use ak_image::Image;
 use ak_machine::Machine;
 use ak_measure::Signers;
@@ -18,6 +18,9 @@ const PROCESSORS: u8 = 2;
 
 /// The most moves of a case.
 const MOST_MOVES: usize = 1000;
+
+/// The most bytes of a case's script.
+const SCRIPT_LIMIT: usize = 1_000_000;
 
 /// The bytes of a word.
 const WORD: usize = 8;
@@ -91,46 +94,71 @@ fn run_of(alloc: Global, documents: &Documents, name: &str) -> Result<Run> {
     Ok(run)
 }
 
-/// The image and the moves of a case.
-fn given<'a>(alloc: Global, lines: &'a str) -> Result<(&'a str, Script)> {
-    let mut image = "";
-    let mut text = String::new(alloc);
+/// The script of this text.
+fn script_of(alloc: Global, text: &[u8]) -> Result<Script> {
+    if text.len() > SCRIPT_LIMIT {
+        bail!("a script is too long");
+    }
+    match Script::read(alloc, text) {
+        Ok(script) => Ok(script),
+        Err(_) => bail!("no script"),
+    }
+}
+
+/// The name of a case's image.
+fn image_of<'a>(lines: &'a str) -> Result<&'a str> {
     for line in lines.lines() {
-        match line.split_once(' ') {
-            Some(("$", name)) => image = name,
-            Some(("|", line)) => {
-                text.push_str(line)?;
-                text.push_str("\n")?;
-            }
-            _ => {}
+        if let Some(("$", name)) = line.split_once(' ') {
+            return Ok(name);
         }
     }
-    let Ok(script) = Script::read(alloc, text.as_bytes()) else {
-        bail!("{image}: no script");
+    bail!("a case without an image")
+}
+
+/// The moves of a case.
+fn moves_of(alloc: Global, lines: &str) -> Result<Script> {
+    let mut text = String::new(alloc);
+    for line in lines.lines() {
+        if let Some(("|", line)) = line.split_once(' ') {
+            text.push_str(line)?;
+            text.push_str("\n")?;
+        }
+    }
+    script_of(alloc, text.as_bytes())
+}
+
+/// Applies a move of a case.
+fn make_move(run: &mut Run, item: Item) -> Result<()> {
+    let Item::Move(m) = item else {
+        bail!("no move");
     };
-    Ok((image, script))
+    if run.journal().moves().len() >= MOST_MOVES {
+        bail!("too many moves");
+    }
+    match run.apply(&m) {
+        Ok(_) => Ok(()),
+        Err(OutOfMemory) => bail!("out of memory"),
+    }
+}
+
+/// Writes what the move of this number changes in each page.
+fn write_all(pages: &mut Vec<Watched>, run: &Run, number: usize, text: &mut String) -> Result<()> {
+    for page in pages.iter_mut() {
+        page.write_changes(run, number, text)?;
+    }
+    Ok(())
 }
 
 /// What the moves of a case change.
 pub fn changes(alloc: Global, documents: &Documents, lines: &str) -> Result<String> {
-    let (image, script) = given(alloc, lines)?;
-    let mut run = run_of(alloc, documents, image)?;
+    let script = moves_of(alloc, lines)?;
+    let mut run = run_of(alloc, documents, image_of(lines)?)?;
     let mut pages = pages_of(alloc, &run)?;
     let mut text = String::new(alloc);
     for item in script.items() {
+        make_move(&mut run, *item)?;
         let number = run.journal().moves().len();
-        let Item::Move(m) = *item else {
-            bail!("no move");
-        };
-        if number >= MOST_MOVES {
-            bail!("too many moves");
-        }
-        if run.apply(&m).is_err() {
-            bail!("out of memory");
-        }
-        for page in pages.iter_mut() {
-            page.write_changes(&run, number + 1, &mut text)?;
-        }
+        write_all(&mut pages, &run, number, &mut text)?;
     }
     let lines = String::from_str(alloc, text.trim_end())?;
     Ok(lines)
