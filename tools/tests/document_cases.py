@@ -9,6 +9,7 @@ from typing import Dict, List, NamedTuple
 from tests.harness import TOOLS, TOP, Tally, call, written
 from tests.program import Given, Program
 from tests.reports import example_reports
+from tests.run_cases import table
 from tests.stand_in import Kept, kept
 
 PAGE, README = os.path.join(TOP, "docs", "TOOLS.md"), os.path.join(TOP, "README.md")
@@ -23,6 +24,12 @@ PICTURES = {
     "straddling_data": "straddling_data.toml auto.script",
     "early_resume": "two_page_loop.toml early_resume.script",
     "stuck": "calls.toml stuck.script",
+}
+# Pictures of cases in the tables of crates/cases, by the table and the comment of the case.
+PICTURES_OF_CASES = {
+    "four_processors": ("entries.txt", "Each turn on another processor."),
+    "fetch": ("blame.txt", "And after it: the move that took it."),
+    "runtime": ("runtime_pages.txt", "STATE is unmapped while a call returns."),
 }
 
 
@@ -51,10 +58,19 @@ def lookup_report(folder: str) -> str:
     return call("predict", image, signers, "auto.script").out
 
 
+def report_of_case(file: str, comment: str) -> str:
+    """The report of the case with this comment in a table of crates/cases."""
+    (case,) = [text for text in table(file).split("\n\n") if f"\n# {comment}\n" in text]
+    lines = case.partition("\n> ")[2].split("\n")
+    return "".join(f"{line}\n" for line in lines if line and not line.startswith("!"))
+
+
 def drawn_reports(folder: str) -> Dict[str, str]:
     """The reports of the pictures."""
     reports = example_reports()
-    return {**{name: reports[example] for name, example in PICTURES.items()}, "lookup": lookup_report(folder)}
+    of_examples = {name: reports[example] for name, example in PICTURES.items()}
+    of_cases = {name: report_of_case(*case) for name, case in PICTURES_OF_CASES.items()}
+    return {**of_examples, **of_cases, "lookup": lookup_report(folder)}
 
 
 def test_pictures(tally: Tally) -> None:
