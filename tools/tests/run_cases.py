@@ -125,7 +125,9 @@ def leavings(image: Image, script: List[str], pages: List[int]) -> str:
     """What a run leaves, as the table tells it."""
     run = Run(image)
     run.play(read_script("".join(f"{line}\n" for line in script).encode()))
-    lines = [f"the run, {len(run.runtime.stack)} saved", *(line for page in pages for line in page_lines(run, page))]
+    is_told = run.enclave.frame_of(run.layout.tcs) is not None
+    lines = [f"the run, {len(run.runtime.stack)} saved" if is_told else "the run, its TCS in no frame"]
+    lines += [line for page in pages for line in page_lines(run, page)]
     return "\n".join([*lines, f"= {0 if run.stop is None else 10}"])
 
 
