@@ -8,7 +8,11 @@ use Rattle.ak_model.specs.Tapes.LastMoment.{runs_of}
 use Rattle.ak_relation.specs.Relation.Journals.{StopNamesBreak}
 use Rattle.ak_relation.specs.Relation.Keeping.{KeepsJournal}
 use Rattle.ak_relation.specs.State.MachineState.{State}
+use Rattle.ak_core.specs.declared.moves.Answer.{Answer}
+use Rattle.ak_core.specs.declared.moves.Move.{Move}
 use Rattle.ak_machine.specs.Machines.{IsState, Parts, with_spare}
+use Rattle.ak_machine.specs.Moves.{Moves}
+use Rattle.ak_machine.specs.declared.applied.Applied.{Applied}
 use Rattle.ak_run.specs.Blaming.{Marked, Marks}
 
 -- a run: the machine, what happened to it, how many instructions of the program were completed, the clusters that are in by the
@@ -50,3 +54,13 @@ pub record SameRun (old new : RunParts) : Type 0 where
   pub count : new.count ≡ old.count
   pub queue : new.queue ≡ old.queue
   pub marks : new.marks ≡ old.marks
+
+-- the machine made this move, with this answer
+pub record MachineMoves (before : Parts) (m : Move) (a : Answer) (after : Parts) : Type 0 where
+  pub applied : Applied
+  pub answer : applied.answer ≡ a
+  pub moves : Moves before m applied after
+
+-- so it did, with perhaps more blank pages to spare than before
+abbrev pub MachineMovesOn : Parts → Move → Answer → Parts → Type 0
+MachineMovesOn before m a after = (spare : ℕ) × MachineMoves (with_spare before spare) m a after

@@ -2,7 +2,7 @@
 ghost use Rattle.std.specs.Prelude.{◌≡◌, ◌+◌, ◌<◌, ◌≤◌, ◌^◌, ◌++◌, ◌∷◌, [], ℕ, List, None, IfOk, OnOk, OnErr, length};
 ghost use Rattle.ak_machine.specs.Machines.{IsJustBuilt};
 ghost use Rattle.ak_machine.specs.Moves.{turns_in};
-ghost use Rattle.ak_run.specs.Runs.{Faithful, SameRun};
+ghost use Rattle.ak_run.specs.Runs.{Faithful, MachineMoves, MachineMovesOn, SameRun};
 
 use crate::events::{event_of, output_of, serve};
 use crate::marks::Marks;
@@ -65,6 +65,7 @@ impl Run {
     pub fn apply(&mut self, m: &Move) -> Result<Answer, OutOfMemory>
         requires { length self.old.journal.moves < 2 ^ 31 }
         ensures faithful { (image : List ℕ) → Faithful image self.old → Faithful image self.new }
+        ensures machine { IfOk result (λ a. MachineMovesOn self.old.machine m.now a self.new.machine) }
         ensures layout { self.new.machine.layout ≡ self.old.machine.layout }
         ensures moves { OnOk result (self.new.journal.moves ≡ self.old.journal.moves ++ m.now ∷ []) }
         ensures answers { IfOk result (λ a. self.new.journal.answers ≡ self.old.journal.answers ++ a ∷ []) }
@@ -95,6 +96,7 @@ impl Run {
         requires room { 0 < self.old.journal.room }
         requires spare { 0 < self.old.machine.encls.handles.spare }
         ensures faithful { (image : List ℕ) → Faithful image self.old → Faithful image self.new }
+        ensures machine { MachineMoves self.old.machine m.now result self.new.machine }
         ensures layout { self.new.machine.layout ≡ self.old.machine.layout }
         ensures moves { self.new.journal.moves ≡ self.old.journal.moves ++ m.now ∷ [] }
         ensures answers { self.new.journal.answers ≡ self.old.journal.answers ++ result ∷ [] }

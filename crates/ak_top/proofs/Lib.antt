@@ -6,5 +6,6 @@ pub mod Following
 pub mod Signing
 pub mod Endings
 pub mod Driven
+pub mod AutoAlone
 pub mod Demos
 pub mod Statuses

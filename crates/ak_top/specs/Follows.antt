@@ -1,5 +1,6 @@
 -- Which moves follow a script: each item's, and for `auto` those of the honest kernel.
-use Rattle.std.specs.Prelude.{◌≡◌, ℕ, zero, suc, List, [], ◌∷◌, reverse, zip, Option, Some, None}
+use Rattle.std.specs.Prelude.{◌≡◌, ℕ, zero, suc, Bool, true, false, List, [], ◌∷◌, reverse, zip, Option, Some, None}
+use Rattle.std.specs.List.{list_all}
 use Rattle.ak_core.specs.Layout.{Layout}
 use Rattle.ak_core.specs.Journal.{Journal}
 use Rattle.ak_core.specs.declared.moves.Answer.{Answer}
@@ -41,3 +42,12 @@ Leads layout inputs (i ∷ items) past last = (next : History) × Makes layout i
 -- the journal has the moves of the script, from the build on
 abbrev pub Follows : Layout → Script → Journal → Type 0
 Follows layout script journal = Leads layout script.inputs script.items [] (past_of journal)
+
+-- the item leaves its moves to the honest kernel
+abbrev pub is_auto : Item → Bool
+is_auto (item.Move m) = false
+is_auto (item.Auto n) = true
+
+-- so does each item of the script
+abbrev pub IsAutoAlone : Script → Type 0
+IsAutoAlone script = list_all is_auto script.items ≡ true

@@ -5,6 +5,7 @@
 
 mod demo;
 mod inputs;
+pub mod laws;
 mod left;
 mod measure;
 mod run;

@@ -7,7 +7,7 @@ use Rattle.ak_machine.specs.Machines.{Parts}
 use Rattle.ak_machine.specs.Moves.{turns_in}
 use Rattle.ak_run.specs.Blaming.{Marks}
 use Rattle.ak_run.specs.Events.{queue_by_event}
-use Rattle.ak_run.specs.Runs.{Faithful, IsBounded, RunParts}
+use Rattle.ak_run.specs.Runs.{Faithful, IsBounded, MachineMoves, RunParts}
 use Rattle.ak_run.proofs.Bounds.{bounded_more, few_completed, fits_count}
 use Rattle.ak_run.proofs.MarkedMoves.{marks_moved}
 use Rattle.ak_run.proofs.Moving.{many_moves, moved_faithful, seen}
@@ -56,3 +56,8 @@ returns-clause-faithful c image f =
     c.lose.ensures.lost c.lose.ensures.size c.lose.ensures.rest c.lose-2.ensures.lost c.lose-2.ensures.rest
     now.past now.state later (ap (λ (ms : List Move). length ms + 1) c.moves.ensures.moves ∙ ap (λ n. n + 1) (many_moves old.machine.layout image now.past now.state old.journal now.keeps.has)) now.marks now.machine tables machine tables'))
     f
+
+pub returns-clause-machine : goal.returns-clause-machine
+returns-clause-machine c =
+    subst (λ (run : RunParts). MachineMoves run.machine c.args.m.now c.apply-applied.result.answer c.apply-applied.new.self) c.self.view_is
+    (record { applied = c.apply-applied.result; answer = refl; moves = c.apply-applied.ensures })
