@@ -8,3 +8,4 @@ mod Marking
 mod Moving
 mod MarkedMoves
 mod Bounds
+mod Cuts
