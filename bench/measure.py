@@ -2,7 +2,7 @@
 """Times the program against what is wanted of it. It is no part of the gate.
 
 usage: measure.py PROGRAM [NAME ..], with the program that `rt run` leaves in crates/autarky/out. Without a NAME it makes all of them:
-  loop     20 moves of 1,000,000 turns each of loop.toml, beside the twin, which `rustc` builds of twin.rs: at most 2.0 times its seconds
+  loop     19 moves of 1,000,000 turns each of loop.toml, beside the twin, which `rustc` builds of twin.rs: at most 2.0 times its seconds
   steps    20,000 moves: a turn, an interrupt, an entry, a resume, again and again: below 0.3 s
   walk     a random walk over 512 pages in 64 clusters with room for 128, under a script of 20,000 moves: below 1.0 s and 60 MiB
   auto     the same under `auto 20000`: below 0.5 s

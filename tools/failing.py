@@ -8,7 +8,8 @@ each from the Nth on. N goes from 1 to as many calls as the run makes; past 2,00
 closed pipe, and less and less memory for the whole process.
 
 Each run must end with a status of the README and that status's line, and with its output as it should be: whole at 0 and 10, a front
-of it that is not whole at 6, and nothing else. It prints a row for each kind of failure. The status is 1 if any run ended otherwise.
+of it that is not whole at 6, and nothing else. It prints a row for each kind of failure. The status is 1 if any run ended otherwise, and
+2 at a faulty use.
 """
 import argparse
 import os
@@ -186,7 +187,10 @@ def main() -> int:
     words.add_argument("program", metavar="PROGRAM")
     words.add_argument("--all", action="store_true", help="refuse each call, however many there are")
     given = words.parse_args()
-    program, table = os.path.abspath(given.program), Table()
+    program = os.path.abspath(given.program)
+    if not (os.path.isfile(program) and os.access(program, os.X_OK)):
+        words.error(f"{given.program} is no program")
+    table = Table()
     with tempfile.TemporaryDirectory() as folder:
         made = library(folder)
         for run, of_run in RUNS.items():

@@ -13,7 +13,7 @@ from tests.run_cases import table
 from tests.stand_in import Kept, kept
 
 PAGE, README = os.path.join(TOP, "docs", "TOOLS.md"), os.path.join(TOP, "README.md")
-COMMAND = re.compile(r"tools/|assembly/|data=|as |printf |echo |tail |sed |for |\(cd |autarky (run|measure) ")
+COMMAND = re.compile(r"tools/|assembly/|data=|as |printf |cat |tail |sed |for |\(cd |autarky (run|measure) ")
 DEFINITION = re.compile(r"^(?:data=|autarky\(\)).*\n", re.MULTILINE)
 CALL = re.compile(r"cd crates/autarky && rt (try|run) --")
 PICTURES = {
@@ -84,6 +84,19 @@ def test_pictures(tally: Tally) -> None:
     tally.equal("the pictures that are there", {name[:-4] for name in os.listdir(os.path.join(TOP, "docs", "pictures"))}, set(reports))
 
 
+def test_architecture(tally: Tally) -> None:
+    """The picture of the crates is up to date, and tools/architecture.py sees where one is not."""
+    tally.equal("docs/architecture.svg is up to date", tuple(call("architecture.py", "--check")), ("", "", 0))
+    with tempfile.TemporaryDirectory() as folder:
+        picture, old = os.path.join(folder, "picture.svg"), written(folder, "old.txt", "below:\nabove: below\n")
+        drawn = call("architecture.py", "--crates", old, "--out", picture)
+        shown = re.findall(r">(\w+)</text>", page_text(picture))
+        tally.equal("architecture.py draws two crates", (tuple(drawn), shown), (("", "", 0), ["above", "below"]))
+        tally.equal("architecture.py --check of what it drew", call("architecture.py", "--check", "--crates", old, "--out", picture).status, 0)
+        new = written(folder, "new.txt", "below:\nabove: below\nother: below\n")
+        tally.equal("architecture.py --check of another list", call("architecture.py", "--check", "--crates", new, "--out", picture).status, 1)
+
+
 def test_names(tally: Tally) -> None:
     """Each tool that the page names is there, and each that is there is named."""
     tools = {name for name in os.listdir(os.path.join(TOP, "tools")) if "." not in name and os.path.isfile(os.path.join(TOP, "tools", name))}
@@ -109,9 +122,8 @@ class Shell:
         self.told = ""
 
     def run(self, text: str) -> str:
-        """What a block of commands tells. A measurement that the page wants to be filled in is the last one that was told."""
-        measured = re.findall(r"^[0-9a-f]{64}$", self.told, re.MULTILINE)
-        text = CALL.sub(self.program, text.replace("MEASUREMENT", measured[-1] if measured else ""))
+        """What a block of commands tells."""
+        text = CALL.sub(self.program, text)
         self.definitions += "".join(DEFINITION.findall(text))
         words, outside = ["sh", "-c", self.definitions + text], {**os.environ, "HOME": self.home}
         done = subprocess.run(words, cwd=TOP, env=outside, capture_output=True, text=True, check=False)
@@ -137,6 +149,7 @@ def test_page(tally: Tally, path: str) -> List[Kept]:
 
 def test(tally: Tally) -> None:
     test_pictures(tally)
+    test_architecture(tally)
     test_names(tally)
     for path in (README, PAGE):
         test_page(tally, path)

@@ -1,4 +1,4 @@
-"""Tests of tools/image. They want `as`, `ld` and `objdump` of GNU binutils."""
+"""Tests of tools/image and of assembly/image.sh. They want gcc, and `as`, `ld`, `objcopy` and `objdump` of GNU binutils."""
 import os
 import re
 import subprocess
@@ -41,12 +41,29 @@ CODE = ("48bb f82f001000000000 48b90a00000000000000 48ba0100000000000000 488b830
         " 48b80400000000000000 0f01d7").replace(" ", "")
 PAGES = [("rx", "text", CODE), ("r", "rodata", "0102"), ("rw", "data", 4089 * "00" + "01"), ("rw", "bss", ""), ("rw", "bss", "")]
 
+# The words by which each linker links for an enclave at 0x400000.
+LINKERS = {
+    "ld": ["--defsym=enclave_base=0x400000"],
+    "gcc": ["-nostdlib", "-static", "-no-pie", "-Wl,--build-id=none,--defsym=enclave_base=0x400000"],
+}
+
 # A kind of linked program, the words of ld, and why it is refused.
 LINKED = [
     ("a section to write and execute", ["-N", "-Ttext=0x10000000"], "the section `.text` is to be written and to be executed, and no page is both"),
     ("sections in one page", ["-Ttext=0x10000000", "--section-start=.rodata=0x10000100"],
      "the sections `.text` and `.rodata` lie in one page, and differ in what they allow"),
     ("a program that can be moved", ["-pie", "--no-dynamic-linker"], "no linked program at fixed addresses: link it, with -static and -no-pie"),
+]
+
+# A source that assembly/image.sh refuses, and why.
+UNLINKED = [
+    ("call nowhere", ["the symbol `nowhere` is undefined"]),
+    ("movabs rbx, offset first\nmovabs rcx, offset second", ["the symbol `first` is undefined", "the symbol `second` is undefined"]),
+    ("movabs rbx, offset table\n.data\ntable: .quad 1", ["the section `.data` has bytes, and only those of .text come into the image: use tools/image"]),
+    ("nop\n.section .rodata\n.byte 1\n.bss\n.space 8",
+     [f"the section `{name}` has bytes, and only those of .text come into the image: use tools/image" for name in (".bss", ".rodata")]),
+    ("movabs rbx, offset table\ntable: .quad 1", ["at 0x2 of .text a linker has to fill in `.text+0x000000000000000a`: use tools/image"]),
+    ("call f\n.globl f\nf: ret", ["at 0x1 of .text a linker has to fill in `f-0x0000000000000004`: use tools/image"]),
 ]
 
 # An instruction, its bytes, how it is spelled, and what to write instead.
@@ -112,9 +129,11 @@ def test_linked(tally: Tally, folder: str) -> None:
     source, one = os.path.join(folder, "sum.s"), call("image", os.path.join(folder, "sum.s")).out
     subprocess.run(["as", "-o", "sum.o", source], cwd=folder, check=True)
     tally.equal("image of an object", call("image", os.path.join(folder, "sum.o")).out, one)
-    words = ["--defsym=enclave_base=0x400000", "-T", os.path.join(TOP, "assembly", "enclave.ld"), "-o", "linked", "sum.o"]
-    subprocess.run(["ld", *words], cwd=folder, check=True)
-    tally.equal("image of what ld links by assembly/enclave.ld", call("image", os.path.join(folder, "linked")).out, call("image", source, "--base", "0x400000").out)
+    moved = call("image", source, "--base", "0x400000").out
+    for linker, words in LINKERS.items():
+        path = os.path.join(folder, f"by_{linker}")
+        subprocess.run([linker, *words, "-T", os.path.join(TOP, "assembly", "enclave.ld"), "-o", path, "sum.o"], cwd=folder, check=True)
+        tally.equal(f"image of what {linker} links by assembly/enclave.ld", tuple(call("image", path)), (moved, "", 0))
     for kind, words, why in LINKED:
         subprocess.run(["ld", "-static", *words, "-o", "linked", "sum.o"], cwd=folder, check=True, capture_output=True)
         told = call("image", os.path.join(folder, "linked"))
@@ -193,6 +212,25 @@ def test_signing(tally: Tally, folder: str) -> None:
     tally.equal("image with bad signers", (told.err.splitlines()[0], told.status), ("signers refused: 2 badkey", 1))
 
 
+def told_by_script(source: str) -> Told:
+    """What assembly/image.sh tells of a source."""
+    done = subprocess.run([os.path.join(TOP, "assembly", "image.sh"), source], capture_output=True, text=True, check=False)
+    return Told(done.stdout, done.stderr, done.returncode)
+
+
+def test_unlinked(tally: Tally, folder: str) -> None:
+    """assembly/image.sh makes images of code that wants no linker, and refuses any other."""
+    pages = [("rx", "code", CODE.replace("f82f0010", "00100010")), ("rw", "data", "")]
+    tally.equal("image.sh of assembly/sum.s", tuple(told_by_script(os.path.join(TOP, "assembly", "sum.s"))), (image_text(pages, 2), "", 0))
+    local = written(folder, "local.s", "nop\nf: call f\n.ident \"none\"\n.section .note.GNU-stack,\"\"\n")
+    tally.equal("image.sh of a call of a label", tuple(told_by_script(local)), (image_text([("rx", "code", "90e8fbffffff"), pages[1]], 2), "", 0))
+    for text, lines in UNLINKED:
+        told = told_by_script(written(folder, "unlinked.s", f".intel_syntax noprefix\n{text}\n"))
+        tally.equal(f"image.sh refuses: {text!r}", (told.out, sorted(told.err.splitlines()), told.status), ("", [f"image.sh: {line}" for line in lines], 1))
+    told = told_by_script(os.path.join(folder, "none.s"))
+    tally.equal("image.sh of no file", (told.out, told.status), ("", 1))
+
+
 def test_victims(tally: Tally) -> None:
     """The sources of assembly/ that are to be linked have known instructions alone."""
     for name, pages in VICTIMS.items():
@@ -211,4 +249,5 @@ def test(tally: Tally) -> None:
         test_defined(tally, folder)
         test_refused(tally, folder)
         test_signing(tally, folder)
+        test_unlinked(tally, folder)
     test_strangers(tally)
