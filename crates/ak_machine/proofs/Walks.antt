@@ -1,5 +1,5 @@
 -- What a machine tells of its pages, where its tables stand for a history.
-use Rattle.std.proofs.Common.{◌≡◌, ℕ, ◌<◌, ◌≤◌, true, List, length, ap, sym, ◌∙◌, subst}
+use Rattle.std.proofs.Common.{◌≡◌, ℕ, ◌<◌, ◌≤◌, true, List, length, ap, sym, ◌∙◌, subst, arith}
 use Rattle.std.specs.Prelude.{Option}
 use Rattle.ak_core.specs.Mem.{access_to}
 use Rattle.ak_core.specs.declared.page.Entry.{Entry}
@@ -11,7 +11,7 @@ use Rattle.ak_model.specs.Paging.Histories.{History}
 use Rattle.ak_model.specs.Paging.Holdings.{Mapping}
 use Rattle.ak_model.specs.Paging.PageTable.{pte}
 use Rattle.ak_model.specs.Paging.Pages.{all_pages, tcs_page}
-use Rattle.ak_model.specs.Paging.Walk.{walkable}
+use Rattle.ak_model.specs.Paging.Walk.{tcs_walkable, walkable}
 use Rattle.ak_model.specs.Tapes.ProgramTurns.{ProgramTurn}
 use Rattle.ak_pager.specs.RuntimePages.{OfCopy}
 use Rattle.ak_pte.specs.Table.{pte_at}
@@ -21,10 +21,11 @@ use Rattle.ak_relation.specs.Relation.Does.{at_moment}
 use Rattle.ak_relation.specs.Relation.Stands.{Stands}
 use Rattle.ak_relation.specs.State.MachineState.{State, copy}
 use Rattle.ak_relation.specs.State.Tables.{TablesStand}
-use Rattle.ak_walk.proofs.Bridge.{walk_finds-walkable}
+use Rattle.ak_walk.proofs.Bridge.{tcs_walk_finds-tcs_walkable, walk_finds-walkable}
 use Rattle.ak_walk.specs.Agrees.{EntryAgrees}
 use Rattle.ak_walk.specs.Mappings.{mapping_of}
 use Rattle.ak_encls.specs.Enclave.{frame_at}
+use Rattle.ak_enclu.specs.EnterAnswers.{finds_tcs}
 use Rattle.ak_enclu.specs.TcsBytes.{saved_of}
 use Rattle.ak_memory.specs.Granting.{is_walked}
 use Rattle.ak_machine.specs.Machines.{HasBytes, IsSound, IsState, Parts}
@@ -43,6 +44,15 @@ module _ (parts : Parts) (past : History) (state : State) (machine : IsState par
       let e = pte_at parts.table p in
       walk_finds-walkable parts.layout past e.flags (entry_at parts.encls.entries e.frame.0) e.frame.0 p kind
       (ap (λ (entry : Mapping). entry.flags) (pte_same p low)) (ap (λ (entry : Mapping). entry.frame) (pte_same p low)) (agrees e.frame.0)
+
+  -- and entering finds the TCS
+  pub tcs_found_is : finds_tcs parts.encls.entries parts.table (tcs_page parts.layout) ≡ tcs_walkable parts.layout past
+  tcs_found_is =
+      let e = pte_at parts.table (tcs_page parts.layout) in
+      let low : tcs_page parts.layout < all_pages parts.layout = omega arith in
+      tcs_walk_finds-tcs_walkable parts.layout past e.flags (entry_at parts.encls.entries e.frame.0) e.frame.0
+      (ap (λ (entry : Mapping). entry.flags) (pte_same (tcs_page parts.layout) low)) (ap (λ (entry : Mapping). entry.frame) (pte_same (tcs_page parts.layout) low))
+      (agrees e.frame.0)
 
 -- what was read from the frame that holds the TCS
 pub told : (parts : Parts) (entries : List Entry) (f t n : ℕ) (bytes : List ℕ) → entries ≡ parts.encls.entries → t ≡ tcs_page parts.layout →

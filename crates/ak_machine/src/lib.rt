@@ -6,6 +6,7 @@ mod applied;
 mod build;
 mod entering;
 mod kernel;
+pub mod laws;
 mod machine;
 
 pub use applied::Applied;

@@ -121,6 +121,7 @@ impl Machine {
     pub fn cssa(&self) -> Option<u8>
         ensures held { IfSome result (λ saved. (bytes : List ℕ) × HasBytes self.now.encls (the_tcs_page self.now.layout) bytes × (saved ≡ saved_of bytes)) }
         ensures none { IfNone result (HasNoFrame self.now.encls.entries (the_tcs_page self.now.layout)) }
+        ensures most { IfSome result (λ saved. saved ≤ 3) }
         ensures stands { (image : List ℕ) (past : History) (control : Control) (turns : List ProgramTurn) (state : State) → IsState self.now state
             → Stands self.now.layout image (at_moment past control turns state) → IfSome result (λ saved. saved ≡ length control.stack) }
     {
