@@ -1,18 +1,17 @@
 -- The numbers of a run stay bounded by how many moves there were.
-use Rattle.std.proofs.Common.{◌≡◌, ℕ, ◌+◌, ◌*◌, ◌^◌, ◌<◌, ◌≤◌, Bool, true, false, List, [], ◌∷◌, ◌++◌, length, refl, ap, sym, ◌∙◌, subst, arith, length-append, Fits, w64}
+use Rattle.std.proofs.Common.{◌≡◌, ℕ, ◌+◌, ◌*◌, ◌^◌, ◌<◌, ◌≤◌, Bool, true, false, List, [], ◌∷◌, ◌++◌, length, ap, sym, ◌∙◌, arith, length-append, Fits, w64}
 use Rattle.std.specs.Prelude.{if◌then◌else◌}
 use Rattle.ak_core.specs.Layout.{Layout}
 use Rattle.ak_core.specs.declared.moves.Answer.{Answer}
 use Rattle.ak_core.specs.declared.moves.Answer.TheVariants.{OkHandle}
-use Rattle.ak_core.specs.declared.moves.Exit.{Exit}
 use Rattle.ak_core.specs.declared.moves.Move.{Move}
-use Rattle.ak_core.specs.declared.moves.Move.TheVariants.{Etrack, Run}
+use Rattle.ak_core.specs.declared.moves.Move.TheVariants.{Etrack}
 use Rattle.ak_model.specs.Kernels.Counted.{is_asynchronous, more_if, saved_after}
-use Rattle.ak_model.specs.Paging.Histories.{Change, Unchanged, Maps, Blocks, Cycles, WritesOut, Loads, Removes, MakesVa, Discards, Enters, Resumes, Exits, Interrupts, change}
+use Rattle.ak_model.specs.Paging.Histories.{Change, Resumes, Exits, Interrupts, change}
 use Rattle.ak_model.specs.Paging.Pages.{all_pages}
 use Rattle.ak_model.specs.Stops.Blame.{faults}
 use Rattle.ak_encls.specs.Answering.{given_by, IsCounted}
-use Rattle.ak_machine.specs.Moves.{Counts, Moves}
+use Rattle.ak_machine.specs.Moves.{Moves}
 use Rattle.ak_machine.specs.declared.applied.Applied.{Applied}
 use Rattle.ak_run.specs.Runs.{IsBounded, RunParts}
 

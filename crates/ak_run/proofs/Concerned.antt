@@ -1,5 +1,5 @@
 -- A move concerns no page but the one that it names and the one in the frame that it would block, empty or fill.
-use Rattle.std.proofs.Common.{◌≡◌, ℕ, Bool, true, false, List, refl, ap, sym, ◌∙◌, subst}
+use Rattle.std.proofs.Common.{◌≡◌, ℕ, Bool, true, false, List, refl, ap, sym, ◌∙◌}
 use Rattle.std.specs.Prelude.{◌&&◌, ◌||◌, ◌==◌, Option, Some, None, if◌then◌else◌}
 use Rattle.ak_core.specs.Layout.{Layout}
 use Rattle.ak_core.specs.declared.moves.Answer.{Answer}
@@ -7,14 +7,13 @@ use Rattle.ak_core.specs.declared.moves.Move.{Move}
 use Rattle.ak_core.specs.declared.moves.Move.TheVariants.{SetPte, ReadPte, Eblock, Etrack, Ewb, Eldu, Eldb, Eremove, Epa, Discard, Eenter, Eresume, Run, Interrupt}
 use Rattle.ak_core.specs.declared.page.Entry.{Entry}
 use Rattle.ak_core.specs.declared.page.Frame.{Frame}
-use Rattle.ak_core.specs.declared.page.PageType.{PageType}
-use Rattle.ak_core.specs.declared.page.PageType.TheVariants.{Secs, Tcs, Reg, Va}
+use Rattle.ak_core.specs.declared.page.PageType.TheVariants.{Tcs, Reg}
 use Rattle.ak_epcm.specs.Entries.{entry_at, is_addressed, is_of_page}
 use Rattle.ak_model.specs.Laws.ConcernedPages.{concerns}
-use Rattle.ak_model.specs.Paging.Histories.{Change, change, Maps, Blocks, WritesOut, Loads, Removes, MakesVa, Exits, Unchanged}
+use Rattle.ak_model.specs.Paging.Histories.{Change, change, Maps, Blocks, WritesOut, Loads, Removes, MakesVa, Exits}
 use Rattle.ak_model.specs.Paging.Holdings.{Held, FreeFrame, SecsFrame, VaFrame, PageFrame, is_page_in}
 use Rattle.ak_model.proofs.Paging.ChangesByAnswer.{exit_holds, handle_holds, ok_holds}
-use Rattle.ak_walk.specs.Agrees.{EntryAgrees, type_of_page}
+use Rattle.ak_walk.specs.Agrees.{EntryAgrees}
 use Rattle.ak_run.specs.Watching.{framed_by, is_page, named_by, page_in}
 
 -- ---- The page in a frame

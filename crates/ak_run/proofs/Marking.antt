@@ -12,7 +12,7 @@ use Rattle.ak_model.specs.Kernels.Counted.{saved_after, saved_count}
 use Rattle.ak_model.specs.Paging.Histories.{History, change}
 use Rattle.ak_model.specs.Paging.Pages.{all_pages, permits}
 use Rattle.ak_model.specs.Paging.Walk.{access_walkable}
-use Rattle.ak_model.specs.Stops.Blame.{enters_at_one, faults, lost_at, past_before_fault, resumed_at, resumes, returned_at}
+use Rattle.ak_model.specs.Stops.Blame.{enters_at_one, faults, lost_at, past_before_fault, resumes}
 use Rattle.ak_relation.proofs.Exits.WalkedReached.{permits_low}
 use Rattle.ak_run.specs.Blaming.{AreLost, Marked, Marks, access_number, kind_number}
 use Rattle.ak_run.specs.Watching.{AreLeft, IsWatched, is_page, watches}

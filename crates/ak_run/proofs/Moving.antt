@@ -25,10 +25,8 @@ use Rattle.ak_model.specs.Tapes.LastMoment.{FlatRuns, runs_of}
 use Rattle.ak_model.specs.Tapes.ProgramTurns.{ProgramTurn}
 use Rattle.ak_model.proofs.Paging.ConcernedPages.{walkable-unconcerned}
 use Rattle.ak_model.proofs.Tapes.EventsTaken.{cluster_below}
-use Rattle.ak_pager.specs.declared.turn.RtTurn.{RtTurn}
 use Rattle.ak_pager.proofs.StepReads.{few_clusters}
 use Rattle.ak_relation.specs.Program.Turns.{events_by, listed}
-use Rattle.ak_relation.specs.Relation.Causes.{NamesMoveCause}
 use Rattle.ak_relation.specs.Relation.Does.{GoesTo, MoveFollows, at_moment}
 use Rattle.ak_relation.specs.Relation.Journals.{HasJournal, StopNamesBreak}
 use Rattle.ak_relation.specs.Relation.Keeping.{HasOneMore, KeepsJournal}
@@ -47,7 +45,6 @@ use Rattle.ak_walk.specs.Agrees.{EntryAgrees}
 use Rattle.ak_turns.specs.Running.{fault_in, outcome_of}
 use Rattle.ak_turns.specs.WholeRuns.{event_after}
 use Rattle.ak_turns.specs.declared.notes.ProgramNote.{ProgramNote}
-use Rattle.ak_turns.specs.declared.notes.RuntimeNote.{RuntimeNote}
 use Rattle.ak_machine.specs.Machines.{IsState, Parts}
 use Rattle.ak_machine.specs.Moves.{Moves, MovesTo}
 use Rattle.ak_machine.specs.declared.applied.Applied.{Applied}

@@ -1,5 +1,5 @@
 -- Where memory ran out, a run stands for what it stood for.
-use Rattle.std.proofs.Common.{◌≡◌, ℕ, List, refl, ap, sym, ◌∙◌, subst}
+use Rattle.std.proofs.Common.{◌≡◌, ℕ, List, ap, sym, ◌∙◌, subst}
 use Rattle.std.specs.Prelude.{Option}
 use Rattle.ak_core.specs.Journal.{Journal, SameLists}
 use Rattle.ak_core.specs.declared.event.Event.{Event}

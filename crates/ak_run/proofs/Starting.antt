@@ -1,5 +1,5 @@
 -- The run of a machine that was just built.
-use Rattle.std.proofs.Common.{◌≡◌, ℕ, zero, suc, ◌*◌, List, [], refl, ap, sym, ◌∙◌, subst}
+use Rattle.std.proofs.Common.{◌≡◌, ℕ, zero, suc, List, [], refl, ap, sym, ◌∙◌, subst}
 use Rattle.std.specs.Prelude.{None, replicate, slice_index}
 use Rattle.ak_core.specs.Layout.{Layout, IsValid}
 use Rattle.ak_core.specs.Journal.{Journal}
@@ -8,8 +8,8 @@ use Rattle.ak_model.specs.Tapes.LastMoment.{runs_of}
 use Rattle.ak_relation.specs.Relation.Journals.{StopNamesBreak}
 use Rattle.ak_relation.proofs.Runs.KeptJournals.{built_journal}
 use Rattle.ak_machine.specs.Machines.{IsJustBuilt, Parts}
-use Rattle.ak_run.specs.Blaming.{AreLost, Marked, Marks, access_number}
-use Rattle.ak_run.specs.Runs.{Faithful, RunParts}
+use Rattle.ak_run.specs.Blaming.{AreLost, Marks, access_number}
+use Rattle.ak_run.specs.Runs.{Faithful}
 
 -- each of these places is 0
 none_lost : (n i : ℕ) → slice_index (replicate n 0) i ≡ 0

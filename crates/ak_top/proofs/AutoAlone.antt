@@ -1,5 +1,5 @@
 -- A run whose script leaves every move to the honest kernel, on a roomy machine.
-use Rattle.std.proofs.Common.{◌≡◌, List, ℕ, sym, subst, true}
+use Rattle.std.proofs.Common.{◌≡◌, sym, subst, true}
 use Rattle.std.specs.Prelude.{None}
 use Rattle.ak_core.specs.Layout.{Layout}
 use Rattle.ak_driver.specs.EndingExits.{last_is_result}

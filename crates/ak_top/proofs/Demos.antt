@@ -1,5 +1,5 @@
 -- The run of a number, and how its command ends.
-use Rattle.std.proofs.Common.{◌≡◌, ℕ, ◌+◌, ◌≤◌, List, [], refl, sym, ◌∙◌, ap, subst, inl, inr, arith}
+use Rattle.std.proofs.Common.{◌≡◌, ℕ, List, [], refl, sym, ◌∙◌, subst, inl, arith}
 use Rattle.std.proofs.lemmas.List.{append-nil}
 use Rattle.std.specs.Prelude.{true, Some, None, Ok, Err}
 use Rattle.ak_core.specs.Layout.{Layout}
@@ -17,7 +17,7 @@ use Rattle.ak_words.specs.Asked.{Demo}
 use Rattle.ak_top.specs.Demo.{layout_by, IsDemoOf}
 use Rattle.ak_top.specs.Ends.{Does, WritesText}
 use Rattle.ak_top.specs.Follows.{Drives, past_of}
-use Rattle.ak_top.specs.Inputs.{Summary, task_in}
+use Rattle.ak_top.specs.Inputs.{Summary}
 use Rattle.ak_top.specs.Seen.{FilesState, SinkState, contents_of}
 use Rattle.ak_top.specs.declared.left.Left.TheVariants as left
 use Rattle.ak_top.specs.declared.trouble.Trouble.{Trouble}

@@ -1,4 +1,3 @@
-use Rattle.std.proofs.Common.{sym, subst}
 use Rattle.std.proofs.lemmas.Result.{err_from_is_err_and}
 use Rattle.ak_top.proofs.Demos.{no_memory, shown, unshown}
 use Rattle.ak_top.proofs.demo.demo_command.Goals as goal

@@ -1,12 +1,9 @@
-use Rattle.std.proofs.Common.{◌≡◌, ℕ, List, refl, sym, ◌∙◌, ap, subst, arith}
-use Rattle.std.proofs.lemmas.Result.{err_from_is_err_and}
-use Rattle.ak_gen.specs.Generated.{generated}
+use Rattle.std.proofs.Common.{sym, ◌∙◌, ap, subst, arith}
 use Rattle.ak_gen.proofs.Wholeness.{generated-whole}
 use Rattle.ak_image.specs.Image.{Image, IsWhole, layout_of}
 use Rattle.ak_run.specs.Runs.{Faithful}
 use Rattle.ak_top.proofs.Demos.{demo_run}
 use Rattle.ak_top.proofs.Frames.{few_handles}
-use Rattle.ak_top.proofs.Signing.{only_memory}
 use Rattle.ak_top.proofs.demo.run_demo.Goals as goal
 
 pub run_honest-requires-clause-handles : goal.run_honest-requires-clause-handles

@@ -1,4 +1,4 @@
-use Rattle.std.proofs.Common.{◌≡◌, List, [], length, arith, ap, sym, subst}
+use Rattle.std.proofs.Common.{◌≡◌, [], length, arith, ap, subst}
 use Rattle.ak_core.specs.Layout.{Layout}
 use Rattle.ak_model.specs.Paging.Histories.{History}
 use Rattle.ak_top.specs.Follows.{Drives, past_of}

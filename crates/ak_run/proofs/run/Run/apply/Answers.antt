@@ -1,4 +1,4 @@
-use Rattle.std.proofs.Common.{rules, subst}
+use Rattle.std.proofs.Common.{subst}
 use Rattle.ak_machine.specs.Machines.{Parts}
 use Rattle.ak_run.specs.Runs.{MachineMoves}
 use Rattle.ak_run.proofs.Same.{same_faithful}

@@ -1,4 +1,4 @@
-use Rattle.std.proofs.Common.{◌≡◌, ℕ, ◌+◌, ◌<◌, ◌^◌, List, ◌∷◌, length, refl, ap, sym, ◌∙◌, subst, arith}
+use Rattle.std.proofs.Common.{◌≡◌, ◌+◌, ◌<◌, ◌^◌, List, length, refl, ap, sym, ◌∙◌, subst}
 use Rattle.ak_core.specs.Layout.{Layout}
 use Rattle.ak_core.specs.Journal.{with_more}
 use Rattle.ak_core.specs.declared.moves.Move.{Move}
@@ -7,7 +7,7 @@ use Rattle.ak_machine.specs.Machines.{Parts}
 use Rattle.ak_machine.specs.Moves.{turns_in}
 use Rattle.ak_run.specs.Blaming.{Marks}
 use Rattle.ak_run.specs.Events.{queue_by_event}
-use Rattle.ak_run.specs.Runs.{Faithful, IsBounded, MachineMoves, RunParts}
+use Rattle.ak_run.specs.Runs.{MachineMoves, RunParts}
 use Rattle.ak_run.proofs.Bounds.{bounded_more, few_completed, fits_count}
 use Rattle.ak_run.proofs.MarkedMoves.{marks_moved}
 use Rattle.ak_run.proofs.Moving.{many_moves, moved_faithful, seen}
