@@ -51,7 +51,8 @@ impl Driver {
         })
     }
 
-    /// One more move is told, with its answer. What the answer names has to be there.
+    /// One more move is told, with its answer. What the answer names has to be there, fewer than 2^31 moves were told before, and 512
+    /// clusters at most are in after it.
     pub fn note(&mut self, m: &Move, a: &Answer)
         ensures { (layout : Pages) (past : History) → Notes self.old layout past → IsPlausible layout past (change m.now a.now)
             → Notes self.new layout ((m.now, a.now) ∷ past) }

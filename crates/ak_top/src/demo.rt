@@ -33,7 +33,7 @@ fn put_summary<O: Sink>(number: u64, run: &Run, out: &mut O) -> Result<(), Troub
     Ok(())
 }
 
-/// The run of a number: the enclave is built of its image, which its own signer signed, and the honest kernel's moves are applied to it.
+/// The run of a number: the enclave is built of its image, and the honest kernel's moves are applied to it.
 fn run_demo(alloc: Global, number: u64) -> Result<Run, Trouble>
     ensures { RunsDemo result number }
 {

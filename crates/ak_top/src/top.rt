@@ -38,8 +38,7 @@ fn do_command<F: Files, O: Sink>(
 ///
 /// `run IMAGE SIGNERS SCRIPT [--frames N] [--processors N]` applies the script's moves to the image's enclave and writes the report
 /// to `out`, and `measure IMAGE` writes the image's measurement. `demo NUMBER` reads no file: it applies up to 20,000 moves of the honest
-/// kernel to the enclave of the number's image, which its own signer signed, on 136 frames and one processor, and writes the summary of
-/// that. Status 0: the text was written. 10: the report was written, and the enclave stopped, which no demo does. 2: the words give no
+/// kernel to the enclave of the number's image, on 136 frames and one processor, and writes the summary of that. Status 0: the text was written. 10: the report was written, and the enclave stopped, which no demo does. 2: the words give no
 /// command. 3: the image or the signers are refused, or the image is not signed. 4: the script is refused. 5: a file could not be read.
 /// 6: the text could not be written. 7: memory ran out. 8: a file is too long. At each but 0 and 10, `err` gets its line. Where a report
 /// or a summary was written, its run is left, and else nothing.
