@@ -149,17 +149,22 @@ fn write_all(pages: &mut Vec<Watched>, run: &Run, number: usize, text: &mut Stri
     Ok(())
 }
 
+/// What these moves change.
+fn changes_of(alloc: Global, run: &mut Run, script: &Script) -> Result<String> {
+    let mut pages = pages_of(alloc, run)?;
+    let mut text = String::new(alloc);
+    for item in script.items() {
+        make_move(run, *item)?;
+        let number = run.journal().moves().len();
+        write_all(&mut pages, run, number, &mut text)?;
+    }
+    let lines = String::from_str(alloc, text.trim_end())?;
+    Ok(lines)
+}
+
 /// What the moves of a case change.
 pub fn changes(alloc: Global, documents: &Documents, lines: &str) -> Result<String> {
     let script = moves_of(alloc, lines)?;
     let mut run = run_of(alloc, documents, image_of(lines)?)?;
-    let mut pages = pages_of(alloc, &run)?;
-    let mut text = String::new(alloc);
-    for item in script.items() {
-        make_move(&mut run, *item)?;
-        let number = run.journal().moves().len();
-        write_all(&mut pages, &run, number, &mut text)?;
-    }
-    let lines = String::from_str(alloc, text.trim_end())?;
-    Ok(lines)
+    changes_of(alloc, &mut run, &script)
 }

@@ -131,13 +131,18 @@ impl Given {
     pub fn play(&mut self, alloc: Global) -> Result<String> {
         let mut left = Left::Nothing;
         let status = self.call(alloc, &mut left);
-        let report = str::from_utf8(self.out.taken())?;
-        let told = str::from_utf8(self.err.taken())?;
-        let is_whole = report.starts_with("autarky 1\n") || report.starts_with("demo ");
         let is_left = match left {
             Left::Nothing => false,
             Left::Run(_) => true,
         };
+        self.told(alloc, status, is_left)
+    }
+
+    /// What came of the call.
+    fn told(&self, alloc: Global, status: u8, is_left: bool) -> Result<String> {
+        let report = str::from_utf8(self.out.taken())?;
+        let told = str::from_utf8(self.err.taken())?;
+        let is_whole = report.starts_with("autarky 1\n") || report.starts_with("demo ");
         if is_left != (is_whole && told.is_empty()) {
             bail!("what is left");
         }

@@ -85,8 +85,8 @@ fn write_run(
     Ok(())
 }
 
-/// What the call of a case leaves, after an earlier call that left a run.
-pub fn leavings(alloc: Global, documents: &Documents, lines: &str) -> Result<String> {
+/// The lines of a call, and the pages that are asked for.
+fn asked(alloc: Global, lines: &str) -> Result<(String, Vec<u32>)> {
     let mut call = String::new(alloc);
     let mut pages = Vec::new(alloc);
     for line in lines.lines() {
@@ -98,14 +98,25 @@ pub fn leavings(alloc: Global, documents: &Documents, lines: &str) -> Result<Str
             }
         }
     }
-    let mut left = earlier(alloc, documents)?;
-    let mut given = Given::new(alloc, documents, &call, "")?;
-    let status = given.call(alloc, &mut left);
+    Ok((call, pages))
+}
+
+/// Tells what is left, and the status.
+fn told(alloc: Global, left: &Left, report: &[u8], pages: &[u32], status: u8) -> Result<String> {
     let mut text = String::new(alloc);
-    match &left {
+    match left {
         Left::Nothing => text.push_str("nothing\n")?,
-        Left::Run(run) => write_run(alloc, run, given.taken(), &pages, &mut text)?,
+        Left::Run(run) => write_run(alloc, run, report, pages, &mut text)?,
     }
     write!(text, "= {status}")?;
     Ok(text)
+}
+
+/// What the call of a case leaves, after an earlier call that left a run.
+pub fn leavings(alloc: Global, documents: &Documents, lines: &str) -> Result<String> {
+    let (call, pages) = asked(alloc, lines)?;
+    let mut given = Given::new(alloc, documents, &call, "")?;
+    let mut left = earlier(alloc, documents)?;
+    let status = given.call(alloc, &mut left);
+    told(alloc, &left, given.taken(), &pages, status)
 }
